@@ -1,0 +1,3 @@
+pub mod Source
+pub mod Computing
+pub mod Examples

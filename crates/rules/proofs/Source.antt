@@ -1,0 +1,128 @@
+-- Laws of the source's types. A type's number is below 8, so the list of a function's eight first values, which antt computes,
+-- says what the function is at each; and a reply has the fields of the answer that it stands for.
+use mathlib.Core.Path.{_≡_, refl, sym, ap, _∙_}
+use mathlib.Core.List.{List, [], _∷_}
+use mathlib.Core.Bool.{Bool, true, false, _&&_}
+use mathlib.Core.Option.{Option, none, some}
+use Prim.Native.Nat.{ℕ, zero, suc, _+_, _/_, _%_, _≤_, _<_}
+use native.Mathlib.Nat.{div-add-mod'}
+use native.Mathlib.Omega.{arith}
+use lib.Dec.{ltb, leb}
+use lib.ListN.{drop, getD}
+use lib.Seq.{drop-drop}
+use borrow.Author.Tests.{ltb-true, ltb-false, ne-eqb, le-leb, lt-leb}
+use Rattle.rules.specs.Words.{Bytes}
+use Rattle.rules.specs.Capabilities.{Kind, call, register, delete, setEntry, write, kinds, number, kindAmong, kindOf, wordCount, greatestWords}
+use Rattle.rules.specs.Messages.{payloadAt, dataOf, payloadOf}
+use Rattle.rules.specs.Answers.{codeBytes, Answer, refused, done, called, registered, looked, fields}
+use Rattle.rules.specs.Source.{isKind, wordsOf, refusedReply, replyOf, OwnPayload, fieldsWith, fieldsOf}
+use Rattle.rules.specs.declared.Answer.{Answer as Case}
+use Rattle.rules.specs.declared.Answer.the-variants.{Refused, Done, Called, Registered, Looked}
+use Rattle.rules.specs.declared.Reply.{Reply}
+
+-- the values of a function at 0 to n - 1
+abbrev pub values : {A : Type 0} → (ℕ → A) → ℕ → List A
+values f zero = []
+values f (suc n) = f 0 ∷ values (λ k. f (suc k)) n
+
+pub value-at : {A : Type 0} (f : ℕ → A) (default : A) (n k : ℕ) → k < n → getD (values f n) k default ≡ f k
+value-at f d zero k h = absurd (omega arith)
+value-at f d (suc n) zero h = refl
+value-at f d (suc n) (suc k) h = value-at (λ i. f (suc i)) d n k (omega arith)
+
+number-below : (kind : Kind) → number kind < 8
+unfolding number
+number-below call = omega arith
+number-below register = omega arith
+number-below delete = omega arith
+number-below setEntry = omega arith
+number-below write = omega arith
+
+none-among : (ks : List Kind) (n : ℕ) → 8 ≤ n → kindAmong ks n ≡ none
+unfolding kindAmong
+none-among [] n h = refl
+none-among (kind ∷ more) n h =
+    rw (ne-eqb (number kind) n (λ e. omega (arith, number-below kind)), kindAmong) (none-among more n h)
+
+-- no number from 8 on names a type
+pub names-none : (n : ℕ) → 8 ≤ n → kindOf n ≡ none
+unfolding kindOf
+names-none n h = none-among kinds n h
+
+-- the numbers that name a type are 3 to 7
+pub is-kind : (n : ℕ) → isKind n ≡ leb 3 n && leb n 7
+unfolding isKind kindOf kindAmong number
+is-kind n = go (ltb n 8) refl
+  where
+    go : (b : Bool) → ltb n 8 ≡ b → isKind n ≡ leb 3 n && leb n 7
+    go true e =
+        let h : n < 8 = ltb-true n 8 e in
+        sym (value-at isKind false 8 n h) ∙ value-at (λ k. leb 3 k && leb k 7) false 8 n h
+    go false e =
+        let h : 8 ≤ n = ltb-false n 8 e in
+        rw (names-none n h, isKind) (simp (le-leb 3 n (omega arith), lt-leb n 7 (omega arith)))
+
+-- no capability has more words than the most
+pub words-bounded : (n : ℕ) → wordsOf n ≤ greatestWords
+unfolding wordsOf wordCount
+words-bounded n = go (kindOf n)
+  where
+    go : (o : Option Kind) → elim o as (λ _. ℕ) [ none ↦ 0 | some kind ↦ wordCount kind ] ≤ 2
+    go none = omega arith
+    go (some call) = omega arith
+    go (some register) = omega arith
+    go (some delete) = omega arith
+    go (some setEntry) = omega arith
+    go (some write) = omega arith
+
+-- the payload is the message from byte 65 on
+pub payload-from : (m : Bytes) → payloadOf (dataOf m) ≡ drop (1 + payloadAt) m
+unfolding payloadOf dataOf
+payload-from m = drop-drop payloadAt 1 m
+
+-- a reply has the fields of the answer that it stands for
+pub reply-fields : (m : Bytes) (a : Answer) → OwnPayload m a → fieldsOf (replyOf a) m ≡ fields a
+unfolding fieldsOf fieldsWith replyOf refusedReply fields
+reply-fields m (refused c) h = refl
+reply-fields m done h = refl
+reply-fields m (called a p) h = rw h
+reply-fields m (registered n) h = refl
+reply-fields m (looked v) h = refl
+
+-- two replies that both stand for an answer are equal
+pub one-reply : {r r′ : Reply} (a : Answer) → r ≡ replyOf a → r′ ≡ replyOf a → r ≡ r′
+one-reply a e e′ = e ∙ sym e′
+
+one-byte : (c : ℕ) → ltb c 256 ≡ true → codeBytes c ≡ c ∷ []
+unfolding codeBytes
+one-byte c t = rw (t, codeBytes)
+
+two-bytes : (c : ℕ) → ltb c 256 ≡ false → codeBytes c ≡ c / 256 ∷ c % 256 ∷ []
+unfolding codeBytes
+two-bytes c t = rw (t, codeBytes)
+
+-- code bytes tell codes apart
+pub code-bytes-apart : (c c′ : ℕ) → codeBytes c ≡ codeBytes c′ → c ≡ c′
+code-bytes-apart c c′ e = go (ltb c 256) (ltb c′ 256) refl refl
+  where
+    go : (b b′ : Bool) → ltb c 256 ≡ b → ltb c′ 256 ≡ b′ → c ≡ c′
+    go true true t t′ = cc (one-byte c t, one-byte c′ t′)
+    go true false t t′ = cc (one-byte c t, two-bytes c′ t′)
+    go false true t t′ = cc (two-bytes c t, one-byte c′ t′)
+    go false false t t′ = cc (two-bytes c t, two-bytes c′ t′, div-add-mod' c 256, div-add-mod' c′ 256)
+
+refused-only : (case : Case) (address value m : Bytes) (c : ℕ) → fieldsWith case address value m ≡ fieldsOf (refusedReply c) m
+    → record { answer = case; address = address; value = value } ≡ refusedReply c
+unfolding fieldsOf fieldsWith refusedReply
+refused-only (Refused k) a v m c e =
+    let same : k .0 ≡ c = code-bytes-apart (k .0) c (ap (λ f. f .code) e) in
+    λ i. record { answer = Refused (record { 0 = same i }); address = e i .address; value = e i .value }
+refused-only Done a v m c e = absurd (omega (arith, ap (λ f. f .flag) e))
+refused-only Called a v m c e = absurd (omega (arith, ap (λ f. f .flag) e))
+refused-only (Registered n) a v m c e = absurd (omega (arith, ap (λ f. f .flag) e))
+refused-only Looked a v m c e = absurd (omega (arith, ap (λ f. f .flag) e))
+
+-- a reply with the fields of a refusal is that refusal
+pub refusal-apart : (r : Reply) (m : Bytes) (c : ℕ) → fieldsOf r m ≡ fieldsOf (refusedReply c) m → r ≡ refusedReply c
+unfolding fieldsOf
+refusal-apart r m c e = refused-only (r .answer) (r .address) (r .value) m c e

@@ -1,0 +1,305 @@
+-- The document's examples ("Both sides of each rule") as statements: P1 to P11 are the list `cases`, the others the list
+-- `computed`. Each list has one claim, that all of it is true: `P1-to-P11` and `computed-hold` of proofs/Examples.
+use Prim.Native.Nat.{ℕ, zero, suc, _+_, _*_, _^_, _-_, _<_}
+use Prim.Native.Char.{code}
+use Prim.Native.String.{String}
+use mathlib.Core.Path.{_≡_}
+use mathlib.Core.List.{List, [], _∷_, _++_}
+use mathlib.Core.Bool.{true, false}
+use lib.ListN.{length, replicate}
+use Rattle.rules.specs.Words.{keyBytes, addressBytes, Bytes, Every, num, bytesOf, word}
+use Rattle.rules.specs.Table.{Store, get, _holds_, puts, bytes, store}
+use Rattle.rules.specs.KernelStorage.{addressSlot, indexSlot, countSlot, wordSlot, lengthSlot, placeSlot, kernelAddressSlot, currentSlot, entrySlot}
+use Rattle.rules.specs.Capabilities.{Kind, call, register, delete, setEntry, write, number, Capability, covers, within, prefixInRange}
+use Rattle.rules.specs.Procedures.{listLength, keyAt, indexOf, current, entryKey}
+use Rattle.rules.specs.Messages.{series, malformed}
+use Rattle.rules.specs.Validation.{passes}
+use Rattle.rules.specs.Answers.{fields, done, registered, Outcome}
+use Rattle.rules.specs.Calls.{setUp, systemCall}
+use Rattle.rules.specs.Program.{program}
+
+-- every statement of a list is true
+abbrev pub AllTrue : List (Type 0) → Type 0
+AllTrue [] = Unit {0}
+AllTrue (A ∷ more) = A × AllTrue more
+
+-- a statement about each of the three types that have a prefix
+abbrev pub EachPrefixType : (Kind → Type 0) → Type 0
+EachPrefixType statement = Every statement (call ∷ register ∷ delete ∷ [])
+
+-- a procedure key that begins with these bytes, each byte after them being `others`
+abbrev pub keyBeginning : (first : Bytes) → (others : ℕ) → ℕ
+keyBeginning first others = num (first ++ replicate (keyBytes - length first) others)
+
+-- a prefix capability of s bits, whose base key begins with the bytes b, and is zero after them
+abbrev pub prefixCapability : (s : ℕ) → (b : Bytes) → Capability
+prefixCapability s b = (s * 256 ^ 31 + keyBeginning b 0x00) ∷ []
+
+-- a Write capability of base a and additional n
+abbrev pub writeCapability : (a n : ℕ) → Capability
+writeCapability a n = a ∷ n ∷ []
+
+-- "a mask of 00 and 60": bit 0 of byte 0, and bit 0 of byte 12, as 60 hex is 12 times 8
+abbrev pub maskOf00And60 : Bytes
+maskOf00And60 = 0x01 ∷ replicate 11 0 ++ 0x01 ∷ replicate 19 0
+
+-- words one after the other, each as its 32 bytes
+abbrev pub wordsInBytes : List ℕ → Bytes
+wordsInBytes [] = []
+wordsInBytes (w ∷ ws) = word w ++ wordsInBytes ws
+
+-- a requested capability in Register's series: "CapSize, CapType, then its words"
+abbrev pub requested : Kind → Capability → List ℕ
+requested kind c = (1 + length c) ∷ number kind ∷ c
+
+-- a message: its type, then the words of its data. Each of the three below uses the first capability of its type.
+abbrev pub message : Kind → (words : List ℕ) → Bytes
+message kind words = number kind ∷ wordsInBytes words
+
+-- Register of a key, with the address 33
+abbrev pub registerMessage : (key : ℕ) → (requests : List ℕ) → Bytes
+registerMessage key requests = message register (0 ∷ key ∷ 0x33 ∷ requests)
+
+abbrev pub deleteMessage : (key : ℕ) → Bytes
+deleteMessage key = message delete (0 ∷ key ∷ [])
+
+abbrev pub writeMessage : (address value : ℕ) → Bytes
+writeMessage address value = message write (0 ∷ address ∷ value ∷ [])
+
+-- three procedure keys
+abbrev pub K1 : ℕ
+K1 = 1
+
+abbrev pub K2 : ℕ
+K2 = 2
+
+abbrev pub K3 : ℕ
+K3 = 3
+
+-- n bytes that are in no record form, as the host may lend them to a set-up
+abbrev pub lent : (n : ℕ) → Bytes
+lent n = replicate n 0xff
+
+-- set-up of K1 on n bytes, with the address 11 and the kernel address 22; and the table that it leaves
+abbrev pub settingUp : (n : ℕ) → Outcome
+settingUp n = setUp (lent n) (bytesOf keyBytes K1) (bytesOf addressBytes 0x11) (bytesOf addressBytes 0x22)
+
+abbrev pub setUpTable : (n : ℕ) → Bytes
+setUpTable n = settingUp n .table
+
+-- a system call with the code 00
+abbrev pub sending : (table message : Bytes) → Outcome
+sending t m = systemCall t m (0x00 ∷ []) maskOf00And60
+
+-- a table with K1 K2 K3, which has room for 20 records, and what it holds; then K2 is deleted
+abbrev pub withThree : Bytes
+withThree = sending (sending (setUpTable 1280) (registerMessage K2 []) .table) (registerMessage K3 []) .table
+
+abbrev pub three : Store
+three = store withThree
+
+abbrev pub afterDeletion : Store
+afterDeletion = store (sending withThree (deleteMessage K2) .table)
+
+-- count keys of the list, from place n on; all of them
+abbrev pub keysFrom : Store → (n count : ℕ) → List ℕ
+keysFrom s n zero = []
+keysFrom s n (suc count) = keyAt s n ∷ keysFrom s (suc n) count
+
+abbrev pub keysOf : Store → List ℕ
+keysOf s = keysFrom s 1 (listLength s)
+
+-- "s=8, b=a0..: covers a0.., not a1.."
+abbrev pub P1 : Type 0
+P1 =
+    EachPrefixType (λ type. covers type (prefixCapability 8 (0xa0 ∷ [])) (keyBeginning (0xa0 ∷ []) 0xff) ≡ true)
+    × EachPrefixType (λ type. covers type (prefixCapability 8 (0xa0 ∷ [])) (keyBeginning (0xa1 ∷ []) 0x00) ≡ false)
+
+-- "s=9, b=a000..: covers a07f.., not a080.."
+abbrev pub P2 : Type 0
+P2 =
+    EachPrefixType (λ type. covers type (prefixCapability 9 (0xa0 ∷ 0x00 ∷ [])) (keyBeginning (0xa0 ∷ 0x7f ∷ []) 0xff) ≡ true)
+    × EachPrefixType (λ type. covers type (prefixCapability 9 (0xa0 ∷ 0x00 ∷ [])) (keyBeginning (0xa0 ∷ 0x80 ∷ []) 0x00) ≡ false)
+
+-- "s=0 covers every key": whatever the word w holds after its byte 0
+abbrev pub P3 : Type 0
+P3 = EachPrefixType (λ type. (w key : ℕ) → w < 256 ^ 31 → key < 256 ^ keyBytes → covers type (w ∷ []) key ≡ true)
+
+-- "prefix 24 accepted, 25 malformed"
+abbrev pub P4 : Type 0
+P4 =
+    EachPrefixType (λ type. prefixInRange type (prefixCapability 24 []) ≡ true)
+    × EachPrefixType (λ type. prefixInRange type (prefixCapability 25 []) ≡ false)
+    × EachPrefixType (λ type. malformed (series (wordsInBytes (requested type (prefixCapability 24 [])))) ≡ false)
+    × EachPrefixType (λ type. malformed (series (wordsInBytes (requested type (prefixCapability 25 [])))) ≡ true)
+
+-- "(8,a0..) lies within (0,0), not the reverse". The reverse differs in its first bits already;
+-- the last line is for the lengths alone: (0,a0..) does not lie within (8,a0..).
+abbrev pub P5 : Type 0
+P5 =
+    EachPrefixType (λ type. within type (prefixCapability 8 (0xa0 ∷ [])) (prefixCapability 0 []) ≡ true)
+    × EachPrefixType (λ type. within type (prefixCapability 0 []) (prefixCapability 8 (0xa0 ∷ [])) ≡ false)
+    × EachPrefixType (λ type. within type (prefixCapability 0 (0xa0 ∷ [])) (prefixCapability 8 (0xa0 ∷ [])) ≡ false)
+
+-- "Write(8000 hex, 5) covers 8005, not 8006"
+abbrev pub P6 : Type 0
+P6 =
+    (covers write (writeCapability 0x8000 5) 0x8005 ≡ true)
+    × (covers write (writeCapability 0x8000 5) 0x8006 ≡ false)
+
+-- "(82,3) within (80,5), (82,4) not (bases hex)"
+abbrev pub P7 : Type 0
+P7 =
+    (within write (writeCapability 0x82 3) (writeCapability 0x80 5) ≡ true)
+    × (within write (writeCapability 0x82 4) (writeCapability 0x80 5) ≡ false)
+
+-- "(80 hex,10) within neither (80,5) nor (85,5)"
+abbrev pub P8 : Type 0
+P8 =
+    (within write (writeCapability 0x80 10) (writeCapability 0x80 5) ≡ false)
+    × (within write (writeCapability 0x80 10) (writeCapability 0x85 5) ≡ false)
+
+-- "(2^256−1, 1) is not within (0, 2^256−1)"
+abbrev pub P9 : Type 0
+P9 = within write (writeCapability (2 ^ 256 - 1) 1) (writeCapability 0 (2 ^ 256 - 1)) ≡ false
+
+-- "with a mask of 00 and 60: code 60 f4 00 passes, 60 passes, f4 and empty code do not"
+abbrev pub P10 : Type 0
+P10 =
+    (passes maskOf00And60 (0x60 ∷ 0xf4 ∷ 0x00 ∷ []) ≡ true)
+    × (passes maskOf00And60 (0x60 ∷ []) ≡ true)
+    × (passes maskOf00And60 (0xf4 ∷ []) ≡ false)
+    × (passes maskOf00And60 [] ≡ false)
+
+-- "keys K1 K2 K3, K1 current and entry; delete K2: K1 K3, K3 has index 2"
+abbrev pub P11 : Type 0
+P11 =
+    (keysOf three ≡ K1 ∷ K2 ∷ K3 ∷ [])
+    × (current three ≡ K1)
+    × (entryKey three ≡ K1)
+    × (keysOf afterDeletion ≡ K1 ∷ K3 ∷ [])
+    × (listLength afterDeletion ≡ 2)
+    × (indexOf afterDeletion K3 ≡ 2)
+
+-- "P1 to P11 are one list with a single proved claim about it"
+unfoldable pub cases : List (Type 0)
+cases = P1 ∷ P2 ∷ P3 ∷ P4 ∷ P5 ∷ P6 ∷ P7 ∷ P8 ∷ P9 ∷ P10 ∷ P11 ∷ []
+
+-- The records of a set-up. A word or a count that is zero has none.
+abbrev pub firstRecords : (key address kernelAddress : ℕ) → Store
+firstRecords k a ka =
+    addressSlot k holds a
+    ∷ indexSlot k holds 1
+    ∷ countSlot k (number call) holds 1
+    ∷ countSlot k (number register) holds 1
+    ∷ countSlot k (number delete) holds 1
+    ∷ countSlot k (number setEntry) holds 1
+    ∷ countSlot k (number write) holds 1
+    ∷ wordSlot k (number write) 1 1 holds (2 ^ 256 - 1)
+    ∷ lengthSlot holds 1
+    ∷ placeSlot 1 holds k
+    ∷ kernelAddressSlot holds ka
+    ∷ currentSlot holds k
+    ∷ entrySlot holds k
+    ∷ []
+
+-- "A refusal is flag 0 with these bytes, .. and a table equal byte for byte to the one lent."
+pub record Refuses (codeBytes table : Bytes) (o : Outcome) : Type 0 where
+  pub flagIs0 : fields (o .answer) .flag ≡ 0
+  pub withBytes : fields (o .answer) .code ≡ codeBytes
+  pub asLent : o .table ≡ table
+
+-- the address "fffffffe ff..ff", and the first of kernel storage, "ffffffff 00..00"
+abbrev pub lastBeforeKernelStorage : ℕ
+lastBeforeKernelStorage = num (0xff ∷ 0xff ∷ 0xff ∷ 0xfe ∷ replicate 28 0xff)
+
+abbrev pub firstOfKernelStorage : ℕ
+firstOfKernelStorage = num (0xff ∷ 0xff ∷ 0xff ∷ 0xff ∷ replicate 28 0x00)
+
+-- two series of requested capabilities
+abbrev pub writeThenSetEntry : List ℕ
+writeThenSetEntry = requested write (writeCapability 1 1) ++ requested setEntry []
+
+abbrev pub setEntryThenTooMuch : List ℕ
+setEntryThenTooMuch = requested setEntry [] ++ requested write (writeCapability (2 ^ 256 - 1) 1)
+
+-- the characters of a text, each as its byte
+unfoldable pub characters : String → Bytes
+characters String.[] = []
+characters (String._∷_ c more) = code c ∷ characters more
+
+-- "Set-up needs 13 records (832 bytes)"; "It overwrites the table whatever it held."
+abbrev pub SetUpHas13Records : Type 0
+SetUpHas13Records =
+    (settingUp 832 .answer ≡ done)
+    × (store (setUpTable 832) ≡ firstRecords K1 0x11 0x22)
+    × (length (store (setUpTable 832)) ≡ 13)
+
+-- "Set-up on 768 bytes answers 66 e7, on 831 66 ef."
+abbrev pub SetUpNeedsItsBytes : Type 0
+SetUpNeedsItsBytes =
+    Refuses (0x66 ∷ 0xe7 ∷ []) (lent 768) (settingUp 768)
+    × Refuses (0x66 ∷ 0xef ∷ []) (lent 831) (settingUp 831)
+
+-- "With set-up capabilities, a write to fffffffe ff..ff succeeds, to ffffffff 00..00 answers 33."
+abbrev pub WriteSparesKernelStorage : Type 0
+WriteSparesKernelStorage =
+    (sending (setUpTable 896) (writeMessage lastBeforeKernelStorage 5) .answer ≡ done)
+    × (get (store (sending (setUpTable 896) (writeMessage lastBeforeKernelStorage 5) .table)) lastBeforeKernelStorage ≡ 5)
+    × Refuses (0x33 ∷ []) (setUpTable 896) (sending (setUpTable 896) (writeMessage firstOfKernelStorage 5))
+
+-- "Registering Write(1,1) and Set Entry reports 2 tests."
+abbrev pub RegisterReportsTests : Type 0
+RegisterReportsTests = sending (setUpTable 1280) (registerMessage K2 writeThenSetEntry) .answer ≡ registered 2
+
+-- 33: "a requested capability within none held". The request before it lies within one held, and still nothing is stored.
+-- The second line registers the current key again: what is requested is not yet held when it is tested, so 33 comes before 66 e1.
+abbrev pub RequestsAreTestedFirst : Type 0
+RequestsAreTestedFirst =
+    Refuses (0x33 ∷ []) (setUpTable 1280) (sending (setUpTable 1280) (registerMessage K2 setEntryThenTooMuch))
+    × Refuses (0x33 ∷ []) (setUpTable 1280) (sending (setUpTable 1280) (registerMessage K1 setEntryThenTooMuch))
+
+-- "Register e4, 33 (index, cover), e9, e5": code that does not pass is found before a series that is cut
+abbrev pub CodeIsJudgedBeforeSeries : Type 0
+CodeIsJudgedBeforeSeries =
+    Refuses (0x66 ∷ 0xe9 ∷ []) (setUpTable 832) (systemCall (setUpTable 832) (registerMessage K2 (1 ∷ [])) [] maskOf00And60)
+    × Refuses (0x66 ∷ 0xe5 ∷ []) (setUpTable 832) (sending (setUpTable 832) (registerMessage K2 (1 ∷ [])))
+
+-- a table in which K1 is listed twice, and its index names its second place: "an index equal to its place" is broken
+abbrev pub listedTwice : Bytes
+listedTwice =
+    bytes 960 (puts (store (setUpTable 832)) (placeSlot 2 holds K1 ∷ lengthSlot holds 2 ∷ indexSlot K1 holds 2 ∷ []))
+
+abbrev pub KeyStandsOnce : Type 0
+KeyStandsOnce = Refuses (0x66 ∷ 0xef ∷ []) listedTwice (sending listedTwice (0 ∷ []))
+
+-- 66 e1: "key already listed"
+abbrev pub KeyIsRegisteredOnce : Type 0
+KeyIsRegisteredOnce = Refuses (0x66 ∷ 0xe1 ∷ []) withThree (sending withThree (registerMessage K2 []))
+
+-- "Input `00`, `01`, `07`, an empty line prints:"
+abbrev pub ProgramPrints : Type 0
+ProgramPrints = program (characters "00\n01\n07\n\n") ≡ characters "1\n0 aa\n0 66e0\n0 66e0\n"
+
+-- "Types 8 and 9 answer as unknown, in messages and in capabilities."
+abbrev pub Types8And9AreUnknown : Type 0
+Types8And9AreUnknown =
+    Refuses (0xaa ∷ []) (setUpTable 832) (sending (setUpTable 832) (8 ∷ []))
+    × Refuses (0xaa ∷ []) (setUpTable 832) (sending (setUpTable 832) (9 ∷ []))
+    × (malformed (series (wordsInBytes (1 ∷ 8 ∷ []))) ≡ true)
+    × (malformed (series (wordsInBytes (1 ∷ 9 ∷ []))) ≡ true)
+
+-- the examples that are not marked P
+unfoldable pub computed : List (Type 0)
+computed =
+    SetUpHas13Records
+    ∷ SetUpNeedsItsBytes
+    ∷ WriteSparesKernelStorage
+    ∷ RegisterReportsTests
+    ∷ RequestsAreTestedFirst
+    ∷ CodeIsJudgedBeforeSeries
+    ∷ KeyStandsOnce
+    ∷ KeyIsRegisteredOnce
+    ∷ Types8And9AreUnknown
+    ∷ ProgramPrints
+    ∷ []

@@ -1,0 +1,14 @@
+pub mod Words
+pub mod Table
+pub mod KernelStorage
+pub mod Capabilities
+pub mod Procedures
+pub mod Sound
+pub mod Messages
+pub mod Validation
+pub mod Answers
+pub mod Calls
+pub mod Program
+pub mod Demands
+pub mod Source
+pub mod Examples

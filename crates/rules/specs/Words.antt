@@ -1,0 +1,70 @@
+-- Words and byte order. Bytes are read as one whole number, most significant first ("both big-endian").
+-- A word is a number below 2^256, written as 32 bytes. Sums of words are whole numbers and never wrap.
+-- In all these files `elim (test) [ true ↦ a | false ↦ b ]` reads: a if the test holds, otherwise b. Some sentences have a test
+-- of the same name in lower case: `RecordForm` and `recordForm`, `Ascending` and `ascending`, `Listed` and `listed`, `IsKey` and
+-- `isKey`, `IsAddress` and `isAddress`, `Belongs` and `belongs`, `Sound` and `sound`, `SoundTable` and `soundTable`. The calls use
+-- the tests; the laws show that test and sentence say the same. "This statement decides where they differ": where the Beaker
+-- texts differ from document 01 or from each other, these files say what 01 says.
+use Prim.Native.Nat.{ℕ, zero, suc, _+_, _*_, _/_, _%_, _<_}
+use mathlib.Core.List.{List, [], _∷_}
+use mathlib.Core.Bool.{Bool, true, false}
+use lib.Dec.{eqb}
+use lib.ListN.{take, drop}
+
+-- "keys of procedures 24 bytes, addresses 20, slot keys and the opcode mask 32"; "Words are 32 bytes"
+abbrev pub keyBytes : ℕ
+keyBytes = 24
+
+abbrev pub addressBytes : ℕ
+addressBytes = 20
+
+abbrev pub wordBytes : ℕ
+wordBytes = 32
+
+abbrev pub Bytes : Type 0
+Bytes = List ℕ
+
+-- something holds of every element of a list
+abbrev pub Every : {A : Type 0} → (A → Type 0) → List A → Type 0
+Every P [] = Unit {0}
+Every P (x ∷ xs) = P x × Every P xs
+
+-- what the host lends: each element is a byte
+abbrev pub AllBytes : Bytes → Type 0
+AllBytes bs = Every (λ b. b < 256) bs
+
+-- the number that bytes stand for, behind a number that was read before them
+unfoldable pub numAfter : ℕ → Bytes → ℕ
+numAfter a [] = a
+numAfter a (b ∷ bs) = numAfter (a * 256 + b) bs
+
+unfoldable pub num : Bytes → ℕ
+num bs = numAfter 0 bs
+
+-- the n bytes of a number, put in front of bytes that follow
+unfoldable pub bytesBefore : ℕ → ℕ → Bytes → Bytes
+bytesBefore zero x bs = bs
+bytesBefore (suc n) x bs = bytesBefore n (x / 256) (x % 256 ∷ bs)
+
+unfoldable pub bytesOf : ℕ → ℕ → Bytes
+bytesOf n x = bytesBefore n x []
+
+-- a word as its 32 bytes
+unfoldable pub word : ℕ → Bytes
+word x = bytesOf wordBytes x
+
+-- the word that begins at a byte offset
+unfoldable pub wordAt : Bytes → ℕ → ℕ
+wordAt bs at = num (take wordBytes (drop at bs))
+
+-- the first n words of bytes
+unfoldable pub words : ℕ → Bytes → List ℕ
+words zero bs = []
+words (suc n) bs = num (take wordBytes bs) ∷ words n (drop wordBytes bs)
+
+-- two byte lists are the same
+unfoldable pub sameBytes : Bytes → Bytes → Bool
+sameBytes [] [] = true
+sameBytes [] (y ∷ ys) = false
+sameBytes (x ∷ xs) [] = false
+sameBytes (x ∷ xs) (y ∷ ys) = elim (eqb x y) [ true ↦ sameBytes xs ys | false ↦ false ]
