@@ -1,0 +1,55 @@
+-- "If two results both satisfy a promise they are proved equal": demand 2 leaves no call's answer and no byte of a table open.
+-- Both kernels are equal to the defined one on every input, so to each other; and a reply of the source has the answer's fields.
+use mathlib.Core.Path.{_≡_, refl, sym, ap, _∙_}
+use Rattle.rules.specs.Words.{Bytes, AllBytes}
+use Rattle.rules.specs.Answers.{Outcome, fields, Result, outcome, Check, judge}
+use Rattle.rules.specs.Demands.{AnyCall, LentBytes, Kernel, defined, perform, Demand2}
+use Rattle.laws.proofs.Rows.{judge-cases}
+use Rattle.rules.proofs.Source.{reply-fields}
+use Rattle.rules.specs.Source.{fieldsOf, OwnPayload, replyOf}
+use Rattle.rules.specs.Calls.{systemCall, doKind, doNamed, doCall, doRegister, doDelete, doSetEntry, doWrite}
+use mathlib.Core.List.{List}
+use Rattle.rules.specs.Messages.{null, unknown, named, Named, typeOf, dataOf, ofKind}
+use Rattle.rules.specs.Table.{room, store}
+use Rattle.rules.specs.Capabilities.{Kind, call, register, delete, setEntry, write}
+
+-- the rules themselves meet it
+pub demand-2-met : Demand2 defined
+demand-2-met t c bs lent = refl
+
+module _ (K L : Kernel) (forK : Demand2 K) (forL : Demand2 L) (t : Bytes) (c : AnyCall) (bs : AllBytes t) (lent : LentBytes c) where
+  pub demand-2-unique : perform K t c ≡ perform L t c
+  demand-2-unique = forK t c bs lent ∙ sym (forL t c bs lent)
+
+  -- so the result fields are the same
+  pub demand-2-fields : fields (perform K t c .answer) ≡ fields (perform L t c .answer)
+  demand-2-fields = ap (λ (o : Outcome). fields (o .answer)) demand-2-unique
+
+-- A Call's payload is the caller's own, so the reply that stands for a system call's answer has all of the answer's fields.
+own : (m t : Bytes) → Result → Type 0
+own m t r = OwnPayload m (outcome t r .answer)
+
+refused-own : (m t : Bytes) (cs : List Check) (r : Result) → own m t r → own m t (judge cs r)
+unfolding own outcome
+refused-own m t cs r h = judge-cases (own m t) cs r (λ c i e. tt) (λ ps. h)
+
+kind-own : (t m code mask : Bytes) (kind : Kind) → own m t (doKind (room t) (store t) (dataOf m) code mask kind)
+unfolding own outcome doKind doCall doRegister doDelete doSetEntry doWrite
+kind-own t m code mask call = refused-own m t _ _ refl
+kind-own t m code mask register = refused-own m t _ _ tt
+kind-own t m code mask delete = refused-own m t _ _ tt
+kind-own t m code mask setEntry = refused-own m t _ _ tt
+kind-own t m code mask write = refused-own m t _ _ tt
+
+named-own : (t m code mask : Bytes) (n : Named) → own m t (doNamed (room t) (store t) (dataOf m) code mask n)
+unfolding own outcome doNamed
+named-own t m code mask null = tt
+named-own t m code mask unknown = tt
+named-own t m code mask (ofKind kind) = refused-own m t _ _ (kind-own t m code mask kind)
+
+pub own-payload : (t m code mask : Bytes) → OwnPayload m (systemCall t m code mask .answer)
+unfolding systemCall own
+own-payload t m code mask = refused-own m t _ _ (named-own t m code mask (named (typeOf m)))
+
+pub system-call-fields : (t m code mask : Bytes) → fieldsOf (replyOf (systemCall t m code mask .answer)) m ≡ fields (systemCall t m code mask .answer)
+system-call-fields t m code mask = reply-fields m (systemCall t m code mask .answer) (own-payload t m code mask)

@@ -1,0 +1,16 @@
+pub mod Bools
+pub mod Numbers
+pub mod Lists
+pub mod Words
+pub mod Stores
+pub mod Present
+pub mod KindFacts
+pub mod Slots
+pub mod Tables
+pub mod Rows
+pub mod Records
+pub mod Places
+pub mod Procedures
+pub mod SoundDecides
+pub mod TableDecides
+pub mod Fresh

@@ -1,0 +1,1 @@
+// Laws about the rules that many proofs use; there is no code here.
