@@ -2,6 +2,11 @@ pub mod Bools
 pub mod Numbers
 pub mod Lists
 pub mod Words
+pub mod Tests
+pub mod Numerals
+pub mod Parts
+pub mod WordParts
+pub mod WordLists
 pub mod Stores
 pub mod Present
 pub mod KindFacts
@@ -14,3 +19,7 @@ pub mod Procedures
 pub mod SoundDecides
 pub mod TableDecides
 pub mod Fresh
+pub mod TableRecords
+pub mod Looked
+pub mod KindSound
+pub mod SoundTests

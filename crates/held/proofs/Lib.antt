@@ -1,0 +1,3 @@
+pub mod HeldWords
+pub mod Searching
+pub mod Place

@@ -1,0 +1,3 @@
+pub mod FirstBits
+pub mod PrefixWords
+pub mod ByType

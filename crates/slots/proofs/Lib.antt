@@ -1,0 +1,3 @@
+pub mod KeyWritten
+pub mod KeyRead
+pub mod Digits
