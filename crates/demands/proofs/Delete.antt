@@ -18,7 +18,7 @@ use Rattle.laws.proofs.Stores.{puts-ascending, Misses, get-puts-other, hit-or-m
 use Rattle.laws.proofs.Present.{no-longer}
 use Rattle.laws.proofs.Slots.{Fits, slot-inKernelStorage, fixed, one-end}
 use Rattle.laws.proofs.Places.{placeSoundOf, soundFrom, came-sound, came-agrees, came-kept, belongs-carried}
-use Rattle.laws.proofs.Procedures.{Good}
+use Rattle.laws.proofs.Procedures.{Good, length-present, place-present, index-present}
 use Rattle.demands.proofs.Removed.{own-slot, own-inKernelStorage, present-not-own, get-without, without-ascending}
 use Rattle.demands.proofs.Deletion.{Deletion, N, freed, moved, stored, s′, freed-in, last-in, p-fits, list-fits, index-fits, last-cleared, in-new, listed-new, current-kept, entry-kept, kernelAddress-kept, came}
 
@@ -38,25 +38,13 @@ module _ {n : ℕ} {s : Store} {p : ℕ} (d : Deletion n s p) where
   present-missed k present misses =
       get-without p (puts s (stored d)) k (present-not-own p (puts s (stored d)) k present) ∙ get-puts-other s (stored d) k misses
 
-  place-present : (x : ℕ) → InList s x → get s (placeSlot x) ≢ 0
-  unfolding keyAt
-  place-present x i z = omega (arith, sound .keys x i .nonZero)
-
-  index-present : get s (indexSlot (moved d)) ≢ 0
-  unfolding indexOf
-  index-present z = omega (arith, sound .indexes (N d) (last-in d), sound .atLeastOne)
-
-  length-present : get s lengthSlot ≢ 0
-  unfolding listLength
-  length-present z = omega (arith, sound .atLeastOne)
-
   was-present : (k : ℕ) → get after k ≢ 0 → get s k ≢ 0
   was-present k =
       hit-or-miss (λ k. get after k ≢ 0 → get s k ≢ 0) (stored d) (
-      (λ h. place-present (freed d) (freed-in d))
-      also (λ h. index-present)
-      also (λ h. length-present)
-      also (λ h. place-present (N d) (last-in d))
+      (λ h. place-present sound (freed d) (freed-in d))
+      also (λ h. index-present sound (N d) (last-in d))
+      also (λ h. length-present sound)
+      also (λ h. place-present sound (N d) (last-in d))
       also tt)
       k (λ misses present z. present (present-missed k present misses ∙ z))
 

@@ -7,7 +7,7 @@ use Rattle.rules.specs.Demands.{AnyCall, LentBytes, Kernel, defined, perform, D
 use Rattle.laws.proofs.Rows.{judge-cases}
 use Rattle.rules.proofs.Source.{reply-fields}
 use Rattle.rules.specs.Source.{fieldsOf, OwnPayload, replyOf}
-use Rattle.rules.specs.Calls.{systemCall, doKind, doNamed, doCall, doRegister, doDelete, doSetEntry, doWrite}
+use Rattle.rules.specs.Calls.{setUp, turn, look, systemCall, doKind, doNamed, doCall, doRegister, doDelete, doSetEntry, doWrite}
 use mathlib.Core.List.{List}
 use Rattle.rules.specs.Messages.{null, unknown, named, Named, typeOf, dataOf, ofKind}
 use Rattle.rules.specs.Table.{room, store}
@@ -50,6 +50,19 @@ named-own t m code mask (ofKind kind) = refused-own m t _ _ (kind-own t m code m
 pub own-payload : (t m code mask : Bytes) → OwnPayload m (systemCall t m code mask .answer)
 unfolding systemCall own
 own-payload t m code mask = refused-own m t _ _ (named-own t m code mask (named (typeOf m)))
+
+-- no other call has a payload, so their replies need no message
+pub set-up-payload : (t k a ka m : Bytes) → OwnPayload m (setUp t k a ka .answer)
+unfolding setUp own outcome
+set-up-payload t k a ka m = refused-own m t _ _ tt
+
+pub turn-payload : (t k m : Bytes) → OwnPayload m (turn t k .answer)
+unfolding turn own outcome
+turn-payload t k m = refused-own m t _ _ tt
+
+pub look-payload : (t k m : Bytes) → OwnPayload m (look t k .answer)
+unfolding look own outcome
+look-payload t k m = refused-own m t _ _ tt
 
 pub system-call-fields : (t m code mask : Bytes) → fieldsOf (replyOf (systemCall t m code mask .answer)) m ≡ fields (systemCall t m code mask .answer)
 system-call-fields t m code mask = reply-fields m (systemCall t m code mask .answer) (own-payload t m code mask)

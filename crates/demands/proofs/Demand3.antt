@@ -1,41 +1,25 @@
 -- The third demand holds of every kernel that meets the second. A set-up leaves a good table and each call is a `Step`, so every
 -- table is good; where a procedure's capabilities come from is found by going back through the calls, the latest first.
-use Prim.Native.Nat.{ℕ, _^_, _<_}
+use Prim.Native.Nat.{ℕ}
 use mathlib.Core.Path.{_≡_, refl, ap, _∙_, subst}
-use mathlib.Core.Logic.{_⊎_, inl, inr}
 use mathlib.Core.List.{List, [], _∷_}
 use mathlib.Core.Bool.{Bool, true, false, true≢false, not}
 use mathlib.Core.Option.{Option, none, some}
 use lib.Dec.{eqb}
 use mathlib.Core.Path.{sym}
 use Rattle.rules.specs.Words.{Bytes, Every}
-use Rattle.rules.specs.Table.{Store, get, store}
-use Rattle.rules.specs.KernelStorage.{slot}
+use Rattle.rules.specs.Table.{Store, store}
 use Rattle.rules.specs.Capabilities.{Kind}
 use Rattle.rules.specs.Procedures.{held, Listed}
 use Rattle.rules.specs.Answers.{Outcome}
 use Rattle.rules.specs.Calls.{setUp}
 use Rattle.rules.specs.Demands.{AnyCall, settingUp, turning, looking, calling, LentBytes, Kernel, defined, perform, Demand2, IsWrite, LiesWithinOne, Kept, registrar, registers, Continues, tableAfter, outcomeOf, Sequence, lastRegistered, after, HoldsAfter, Demand3, ListedAnswer, success, refusal, succeeds}
-use Rattle.laws.proofs.Numbers.{same-or-not}
-use Rattle.laws.proofs.Slots.{slot-inKernelStorage, inProcedure}
-use Rattle.laws.proofs.Procedures.{Good, bodyOf}
+use Rattle.laws.proofs.Procedures.{nothing-stored}
 use Rattle.laws.proofs.TableDecides.{GoodTable, good-bytes, good-sound-table, length-fits, good-soundTable}
-use Rattle.laws.proofs.Places.{belongs-listed}
 use Rattle.demands.proofs.Step.{Step}
 use Rattle.demands.proofs.EachCall.{defined-step}
 use Rattle.demands.proofs.FirstTable.{setUp-good}
 use Rattle.demands.proofs.Demand1.{never-unsound, demand-1}
-
--- What a good table shows by itself: nothing is stored for a key that is not listed.
-nothing-stored : {n : ℕ} {s : Store} → Good n s → (p : ℕ) → p < 2 ^ 192 → (Listed s p → ⊥) → (end : ℕ) → end < 2 ^ 24
-    → get s (slot 0 p end) ≡ 0
-nothing-stored {n} {s} g p hp unlisted end he = go (same-or-not (get s (slot 0 p end)) 0)
-  where
-    go : (get s (slot 0 p end) ≡ 0) ⊎ (get s (slot 0 p end) ≡ 0 → ⊥) → get s (slot 0 p end) ≡ 0
-    go (inl absent) = absent
-    go (inr present) =
-        let f = inProcedure p hp end he in
-        absurd (unlisted (belongs-listed (bodyOf g) f (g .sound .nothingElse (slot 0 p end) (slot-inKernelStorage f) present)))
 
 -- Where what the procedure p holds in the store s comes from: from the table on which it was last registered,
 -- or, if it was not registered since, from the table t at the beginning.

@@ -51,7 +51,7 @@ module _ {s : Store} {p a : ℕ} {rs : List Request} (new : Registration s p a r
   own-fits : (e : ℕ) → e < 2 ^ 24 → Fits 0 p e
   own-fits = inProcedure p (new .isKey .fits)
 
-  own-rises : Rising (addressSlot p) (addressSlot p + 2 ^ 24) own
+  pub own-rises : Rising (addressSlot p) (addressSlot p + 2 ^ 24) own
   unfolding indexSlot ending
   own-rises =
       let second = slot-after p 1 in
@@ -64,7 +64,7 @@ module _ {s : Store} {p a : ℕ} {rs : List Request} (new : Registration s p a r
       rising-misses (addressSlot p) (addressSlot p + 2 ^ 24) own own-rises k
       (λ from below. other (k - addressSlot p) (omega arith) (let z = slot-after p (k - addressSlot p) in omega arith))
 
-  apart : Apart records
+  pub apart : Apart records
   unfolding placeSlot lengthSlot
   apart = (
     (λ q. let z = slot-middle new-fits length-fits q in omega arith, list-misses new-fits),

@@ -1,4 +1,4 @@
--- "Demand 3 .. rejects the copying one again", and it rejects seven more wrong kernels.
+-- "Demand 3 .. rejects the copying one again", and it rejects nine more wrong kernels.
 -- Of each one call after a set-up is computed, and a sentence of `HoldsAfter` is then false.
 use Prim.Native.Nat.{ℕ, _≤_, _^_, _-_}
 use native.Mathlib.Omega.{arith}

@@ -1,5 +1,5 @@
 -- Stand-ins for the kernel that the demands have to reject. "These stand-ins have to be rejected": the five that document 01
--- lists, which demand 2 rejects, and then seven more that demand 3 must reject. Each differs from the rules in the one thing said.
+-- lists, which demand 2 rejects, and then nine more that demand 3 must reject. Each differs from the rules in the one thing said.
 use Prim.Native.Nat.{ℕ, suc, _-_}
 use mathlib.Core.List.{[], _∷_, _++_}
 use mathlib.Core.Bool.{true, false, not}

@@ -1,3 +1,2 @@
-pub mod HeldWords
 pub mod Searching
 pub mod Place

@@ -17,7 +17,8 @@ use Rattle.laws.proofs.KindFacts.{wordCount-small}
 use Rattle.laws.proofs.KindSound.{count-at-most, each-in-range}
 use Rattle.words.specs.Words.{smallLimit}
 use Rattle.rights.specs.Rights.{capabilityIn, WithinNeeds}
-use Rattle.held.specs.Held.{CapabilityOf, SearchNeeds, Searched}
+use Rattle.holding.specs.Holding.{CapabilityOf}
+use Rattle.held.specs.Held.{SearchNeeds, Searched}
 
 -- The test of one and the tests, where the first of a list contains the request, and where it does not.
 module _ (kind : Kind) (b a : Capability) (more : List Capability) where

@@ -76,6 +76,13 @@ module _ (k a ka : ℕ) (isKey : IsKey k) (isAddress : IsAddress a) (kernelFits 
   unfolding listLength
   none-listed = get-below kernelAddressSlot (fixedStore k ka) lengthSlot fixed-ascends (lt-trans length-first place-first)
 
+  -- for callers that store them: they are three, and no procedure is listed yet
+  pub fixed-three : length (fixedRecords k ka) ≡ 3
+  fixed-three = ap length fixed-is
+
+  pub fixed-lists-none : listLength (fixedRecords k ka) ≡ 0
+  fixed-lists-none = ap listLength fixed-is ∙ none-listed
+
   list-is : put (put (fixedStore k ka) (placeSlot 1) k) lengthSlot 1 ≡ listStore k ka
   unfolding recordBefore
   list-is =

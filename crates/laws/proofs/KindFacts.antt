@@ -1,6 +1,6 @@
 -- The five types: each is in the list of types, their numbers are small and rise, and a type's number names it.
 -- What is shown of all of the list holds of each type (`each-kind`).
-use Prim.Native.Nat.{ℕ, suc, _≤_, _<_}
+use Prim.Native.Nat.{ℕ, zero, suc, _+_, _-_, _≤_, _<_}
 use native.Mathlib.Omega.{arith}
 use mathlib.Core.Path.{_≡_, refl, sym, ap, _∙_}
 use mathlib.Core.Logic.{inl, inr}
@@ -8,11 +8,13 @@ use mathlib.Core.List.{List, [], _∷_}
 use mathlib.Core.Option.{Option, none, some}
 use mathlib.Core.Bool.{Bool, true, false, true≢false}
 use lib.Dec.{eqb}
+use lib.ListN.{drop}
 use borrow.Author.Tests.{eqb-true}
 use Rattle.rules.specs.Words.{Every}
 use Rattle.rules.specs.Capabilities.{kindAmong, Kind, call, register, delete, setEntry, write, number, wordCount, kinds, kindOf}
 use Rattle.rules.specs.Sound.{allOf, anyOf}
 use Rattle.rules.specs.Messages.{named, kindOrUnknown, ofKind, null, unknown}
+use Rattle.rules.specs.Source.{wordsOf}
 use Rattle.rules.specs.Demands.{OneOf}
 use Rattle.laws.proofs.Lists.{every-one, all-true, every-all, every-in, any-false}
 
@@ -64,6 +66,11 @@ pub kindOf-number : (kind : Kind) → kindOf (number kind) ≡ some kind
 unfolding kindOf kindAmong number
 kindOf-number = each-kind (λ kind. kindOf (number kind) ≡ some kind) (search)
 
+-- how many words a type has, by its number
+pub words-of : (kind : Kind) {n m : ℕ} → number kind ≡ n → m ≡ wordsOf n → wordCount kind ≡ m
+unfolding wordsOf
+words-of kind {n} q e = let names : kindOf n ≡ some kind = ap kindOf (sym q) ∙ kindOf-number kind in sym (e ∙ rw (names, wordsOf))
+
 pub number-inj : (a b : Kind) → number a ≡ number b → a ≡ b
 number-inj a b q = cc (kindOf-number a, kindOf-number b)
 
@@ -99,3 +106,22 @@ named-kind n kind q = go (eqb n 0) refl (kindOf n) refl
         let a : named n ≡ ofKind x = rw (e, named) (rw f) in
         let same : x ≡ kind = cc in
         sym (kindOf-some n x f) ∙ ap number same
+
+-- A loop over the types by their numbers, 3 to 7: the types from a number on are what is left of `kinds`, and the one with
+-- that number comes next.
+pub record Next (n : ℕ) : Type 0 where
+  pub kind : Kind
+  pub names : number kind ≡ n
+  pub here : drop (n - 3) kinds ≡ kind ∷ drop (n + 1 - 3) kinds
+
+pub next : (n : ℕ) → 3 ≤ n → n ≤ 7 → Next n
+unfolding number
+next n h l = go (n - 3) (omega arith)
+  where
+    go : (j : ℕ) → n ≡ j + 3 → Next n
+    go zero q = rw q (record { kind = call; names = refl; here = refl })
+    go (suc zero) q = rw q (record { kind = register; names = refl; here = refl })
+    go (suc (suc zero)) q = rw q (record { kind = delete; names = refl; here = refl })
+    go (suc (suc (suc zero))) q = rw q (record { kind = setEntry; names = refl; here = refl })
+    go (suc (suc (suc (suc zero)))) q = rw q (record { kind = write; names = refl; here = refl })
+    go (suc (suc (suc (suc (suc j))))) q = absurd (omega arith)

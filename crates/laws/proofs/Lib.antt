@@ -23,3 +23,4 @@ pub mod TableRecords
 pub mod Looked
 pub mod KindSound
 pub mod SoundTests
+pub mod KindLoops

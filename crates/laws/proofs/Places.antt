@@ -167,6 +167,30 @@ belongs-listed {s} {p} {e} b f belongs = go belongs refl
     go currentHere = other-region (fixed 3 (omega arith)) (omega arith)
     go entryHere = other-region (fixed 4 (omega arith)) (omega arith)
 
+-- a place that belongs stands in the list
+pub belongs-place : {s : Store} {n : ℕ} → Body s → Fits 1 n 0 → 1 ≤ n → Belongs s (placeSlot n) → InList s n
+unfolding addressSlot indexSlot countSlot wordSlot lengthSlot placeSlot kernelAddressSlot currentSlot entrySlot
+belongs-place {s} {n} b f first belongs = go belongs refl
+  where
+    other-region : {r m e : ℕ} → Fits r m e → (r ≡ 1 → ⊥) → slot r m e ≡ slot 1 n 0 → InList s n
+    other-region g h z = absurd (regions-apart g f h z)
+
+    owned : {q e : ℕ} → e < 2 ^ 24 → Listed s q → slot 0 q e ≡ slot 1 n 0 → InList s n
+    owned {q} {e} h l = other-region (inProcedure q (listed-fits b l) e h) (λ z. omega arith)
+
+    go : {k : ℕ} → Belongs s k → k ≡ slot 1 n 0 → InList s n
+    go (address l) = owned zero-end l
+    go (index l) = owned one-end l
+    go (count l kind) = owned (ending-fits (number kind) 0 0 (number-small kind) (omega arith) (omega arith)) l
+    go (capabilityWord l kind i w first last word) =
+        let few = rw (l .here) at (b .places (l .place) (l .inList) .counts kind) in
+        owned (ending-fits (number kind) i w (number-small kind) (omega arith) (omega (arith, wordCount-small kind))) l
+    go listLengthHere = λ z. absurd (omega (arith, slot-middle (fixed 1 (omega arith)) f z))
+    go (place m i) = λ z. rw (← slot-middle (place-fits m (omega arith)) f z) i
+    go kernelAddressHere = other-region (fixed 2 (omega arith)) (λ z. omega arith)
+    go currentHere = other-region (fixed 3 (omega arith)) (λ z. omega arith)
+    go entryHere = other-region (fixed 4 (omega arith)) (λ z. omega arith)
+
 -- A place of the list of s′ that came from s: it holds a key that stood in the old list, whose procedure has what it had.
 pub record Came (s s′ : Store) (n : ℕ) : Type 0 where
   pub was : ℕ

@@ -9,16 +9,16 @@ use mathlib.Core.Bool.{true}
 use lib.Dec.{lit<}
 use lib.ListN.{length}
 use Rattle.rules.specs.Words.{Every}
-use Rattle.rules.specs.Table.{Store, Ascending}
-use Rattle.rules.specs.KernelStorage.{placeSlot}
+use Rattle.rules.specs.Table.{Store, Ascending, get}
+use Rattle.rules.specs.KernelStorage.{slot, indexSlot, lengthSlot, placeSlot}
 use Rattle.rules.specs.Capabilities.{Kind, Capability}
-use Rattle.rules.specs.Procedures.{listLength, keyAt, indexOf, countOf, capability, capabilitiesFrom, held, Listed, listed}
+use Rattle.rules.specs.Procedures.{listLength, keyAt, indexOf, countOf, capability, capabilitiesFrom, held, InList, Listed, listed}
 use Rattle.rules.specs.Sound.{Sound}
 use Rattle.laws.proofs.Bools.{tests-true, true-tests}
 use Rattle.laws.proofs.Numbers.{same-or-not}
 use Rattle.laws.proofs.Stores.{pigeons}
-use Rattle.laws.proofs.Slots.{placeSlot-inj}
-use Rattle.laws.proofs.Places.{placeSoundOf, Body}
+use Rattle.laws.proofs.Slots.{placeSlot-inj, slot-inKernelStorage, inProcedure}
+use Rattle.laws.proofs.Places.{placeSoundOf, Body, place-fits, belongs-listed, belongs-place}
 
 -- What a sound table's store is known to be, where proofs speak of stores and not of bytes: sound, of ascending records, and
 -- within a table that has room for n of them, 1,024 at most. Each call that succeeds is proved to lead from a good store to one.
@@ -64,6 +64,43 @@ listed-here s h p l =
 -- a listed key is not zero, so a slot that holds it is present
 pub listed-nonZero : (s : Store) → Sound s → (p : ℕ) → Listed s p → p ≡ 0 → ⊥
 listed-nonZero s h p l z = omega (arith, h .keys (l .place) (l .inList) .nonZero)
+
+-- The slots of the list are present: its length, each place, and the index of the key at each place.
+module _ {s : Store} (h : Sound s) where
+  pub length-present : get s lengthSlot ≢ 0
+  unfolding listLength
+  length-present z = omega (arith, h .atLeastOne)
+
+  pub place-present : (n : ℕ) → InList s n → get s (placeSlot n) ≢ 0
+  unfolding keyAt
+  place-present n i z = omega (arith, h .keys n i .nonZero)
+
+  pub index-present : (n : ℕ) → InList s n → get s (indexSlot (keyAt s n)) ≢ 0
+  unfolding indexOf
+  index-present n i z = omega (arith, h .indexes n i, i .first)
+
+-- Nothing is stored for a key that is not listed.
+pub nothing-stored : {n : ℕ} {s : Store} → Good n s → (p : ℕ) → p < 2 ^ 192 → (Listed s p → ⊥) → (end : ℕ) → end < 2 ^ 24
+    → get s (slot 0 p end) ≡ 0
+nothing-stored {n} {s} g p hp unlisted end he = go (same-or-not (get s (slot 0 p end)) 0)
+  where
+    go : (get s (slot 0 p end) ≡ 0) ⊎ (get s (slot 0 p end) ≡ 0 → ⊥) → get s (slot 0 p end) ≡ 0
+    go (inl absent) = absent
+    go (inr present) =
+        let f = inProcedure p hp end he in
+        absurd (unlisted (belongs-listed (bodyOf g) f (g .sound .nothingElse (slot 0 p end) (slot-inKernelStorage f) present)))
+
+-- and nothing at the place behind the last
+pub nothing-behind : {n : ℕ} {s : Store} → Good n s → get s (placeSlot (suc (listLength s))) ≡ 0
+unfolding placeSlot
+nothing-behind {n} {s} g = go (same-or-not (get s (placeSlot (suc (listLength s)))) 0)
+  where
+    go : (get s (placeSlot (suc (listLength s))) ≡ 0) ⊎ (get s (placeSlot (suc (listLength s))) ≡ 0 → ⊥) → get s (placeSlot (suc (listLength s))) ≡ 0
+    go (inl absent) = absent
+    go (inr present) =
+        let f = place-fits (suc (listLength s)) (omega (arith, list-within g)) in
+        let here = belongs-place (bodyOf g) f (omega arith) (g .sound .nothingElse _ (slot-inKernelStorage f) present) in
+        absurd (omega (arith, here .last))
 
 -- Capabilities. What holds of every capability of a list holds of each that is read by its number, and the other way.
 every-capability : (P : Capability → Type 0) (s : Store) (p : ℕ) (kind : Kind) (n j : ℕ) → Every P (capabilitiesFrom s p kind n j)

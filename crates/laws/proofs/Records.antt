@@ -4,6 +4,7 @@ use Prim.Native.Nat.{ℕ, suc, _≤_, _<_}
 use native.Mathlib.Omega.{arith}
 use mathlib.Core.Path.{_≡_}
 use mathlib.Core.List.{List, [], _∷_, _++_}
+use Rattle.rules.specs.Words.{Every}
 use Rattle.rules.specs.Table.{Record, Store, get, put, puts, Ascending}
 use Rattle.laws.proofs.Rows.{In, here, there}
 use Rattle.laws.proofs.Stores.{put-ascending, Misses, get-puts-last}
@@ -45,13 +46,19 @@ rising-append low middle high [] [] h l = omega arith
 rising-append low middle high [] (x ∷ b) h l = (omega (arith, l .0), l .1)
 rising-append low middle high (x ∷ a) b h l = (h .0, rising-append (suc (x .key)) middle high a b (h .1) l)
 
+-- what holds of every key from low on and below high holds of theirs
+pub rising-each : (P : ℕ → Type 0) (low high : ℕ) (rs : List Record) → Rising low high rs
+    → ((k : ℕ) → low ≤ k → k < high → P k) → Every (λ r. P (r .key)) rs
+rising-each P low high [] h each = tt
+rising-each P low high (r ∷ rs) h each = (
+  each (r .key) (h .0) (rising-bounds (suc (r .key)) high rs (h .1)),
+  rising-each P (suc (r .key)) high rs (h .1) (λ k from below. each k (omega (arith, h .0)) below),
+)
+
 -- a key below or above them is none of theirs
 pub rising-misses : (low high : ℕ) (rs : List Record) → Rising low high rs → (k : ℕ) → (low ≤ k → k < high → ⊥) → Misses k rs
-rising-misses low high [] h k outside = tt
-rising-misses low high (r ∷ rs) h k outside = (
-  λ q. outside (omega (arith, h .0)) (omega (arith, rising-bounds (suc (r .key)) high rs (h .1))),
-  rising-misses (suc (r .key)) high rs (h .1) k (λ l. outside (omega (arith, h .0))),
-)
+rising-misses low high rs h k outside =
+    rising-each (λ x. k ≡ x → ⊥) low high rs h (λ x from below q. outside (omega (arith, q)) (omega (arith, q)))
 
 pub rising-apart : (low high : ℕ) (rs : List Record) → Rising low high rs → Apart rs
 rising-apart low high [] h = tt

@@ -39,6 +39,10 @@ get-below low (e ∷ s) k a h = get-past e s k (λ q. omega arith) ∙ get-below
 get-below-first : (low : ℕ) (e : Record) (s : Store) (k : ℕ) → Ascending low (e ∷ s) → k < e .key → get (e ∷ s) k ≡ 0
 get-below-first low e s k a h = get-below (e .key) (e ∷ s) k (omega arith, a .1, a .2) h
 
+-- the first key is present
+first-present : (low : ℕ) (e : Record) (s : Store) → Ascending low (e ∷ s) → get (e ∷ s) (e .key) ≢ 0
+first-present low e s a z = omega (arith, get-here e s (e .key) refl)
+
 -- A record that goes before others.
 pub recordBefore-present : (k v : ℕ) (s : Store) → 1 ≤ v → recordBefore k v s ≡ k holds v ∷ s
 unfolding recordBefore
@@ -198,6 +202,40 @@ put-no-longer low (e ∷ s) k v a h =
     (λ q. recordBefore-length k v s)
     (λ l. omega (arith, put-no-longer (suc (e .key)) s k v (a .2) (λ z. h (get-past e s k (λ q. omega arith) ∙ z))))
 
+-- a key that is present stays so, whatever key another value than zero is stored at
+pub put-present : (s : Store) (k v j : ℕ) → Ascending 0 s → v ≢ 0 → get s j ≢ 0 → get (put s k v) j ≢ 0
+put-present s k v j a stored present z = go (same-or-not j k)
+  where
+    go : (j ≡ k) ⊎ (j ≢ k) → ⊥
+    go (inl q) = stored (sym (get-put-same 0 s k v a) ∙ ap (get (put s k v)) (sym q) ∙ z)
+    go (inr d) = present (sym (get-put-other s k v j d) ∙ z)
+
+-- a value that is not zero never makes the store shorter
+recordBefore-longer : (k v : ℕ) (s : Store) → 1 ≤ v → length (recordBefore k v s) ≡ suc (length s)
+recordBefore-longer k v s h = rw (recordBefore-present k v s h)
+
+pub put-no-shorter : (s : Store) (k v : ℕ) → 1 ≤ v → length s ≤ length (put s k v)
+put-no-shorter [] k v h = omega arith
+put-no-shorter (e ∷ s) k v h =
+    put-cases (λ t. length (e ∷ s) ≤ length t) e s k v
+    (λ l. omega (arith, recordBefore-longer k v (e ∷ s) h))
+    (λ q. omega (arith, recordBefore-longer k v s h))
+    (λ l. omega (arith, put-no-shorter s k v h))
+
+-- at a key that is absent, zero changes nothing, and any other value is one record more
+pub put-absent : (low : ℕ) (s : Store) (k v : ℕ) → Ascending low s → get s k ≡ 0 → length (put s k v) ≡ length (recordBefore k v s)
+unfolding recordBefore
+put-absent low [] k v a h = rw (put-none k v)
+put-absent low (e ∷ s) k v a h =
+    put-cases (λ t. length t ≡ length (recordBefore k v (e ∷ s))) e s k v
+    (λ l. refl)
+    (λ q. absurd (first-present low e s a (ap (get (e ∷ s)) (sym q) ∙ h)))
+    (λ l. behind v (put-absent (suc (e .key)) s k v (a .2) (sym (get-past e s k (λ q. omega arith)) ∙ h)))
+  where
+    behind : (x : ℕ) → length (put s k v) ≡ length (recordBefore k x s) → suc (length (put s k v)) ≡ length (recordBefore k x (e ∷ s))
+    behind zero q = ap suc q
+    behind (suc x) q = ap suc q
+
 -- n different keys that are present: at least n records
 pub pigeons : (n : ℕ) (f : ℕ → ℕ) (s : Store) → Ascending 0 s → ((i : ℕ) → i < n → get s (f i) ≡ 0 → ⊥)
     → ((i j : ℕ) → i < n → j < n → f i ≡ f j → i ≡ j) → n ≤ length s
@@ -222,9 +260,6 @@ present-recorded P (r ∷ s) h k d = go (same-or-not k (r .key)) (present-record
     go : (k ≡ r .key) ⊎ (k ≢ r .key) → (get s k ≢ 0 → P k) → P k
     go (inl q) later = rw q (h .0)
     go (inr n) later = later (λ z. d (get-past r s k n ∙ z))
-
-first-present : (low : ℕ) (e : Record) (s : Store) → Ascending low (e ∷ s) → get (e ∷ s) (e .key) ≢ 0
-first-present low e s a z = omega (arith, get-here e s (e .key) refl)
 
 pub records-present : (low : ℕ) (s : Store) → Ascending low s → Every (λ (r : Record). get s (r .key) ≢ 0) s
 records-present low [] a = tt

@@ -1,34 +1,24 @@
 -- From the type that a number names to the comparison that judges it: Set Entry holds nothing to compare, Write compares ranges,
 -- and each other type compares prefixes. A capability is read from the words that bytes begin with.
-use Prim.Native.Nat.{ℕ, _+_, _*_, _%_, _^_, _≤_, _<_}
+use Prim.Native.Nat.{ℕ, _*_, _%_, _^_, _≤_, _<_}
 use native.Mathlib.Omega.{arith}
-use native.Mathlib.Nat.{add-zero, div-one, mod-eq-of-lt}
+use native.Mathlib.Nat.{div-one, mod-eq-of-lt}
 use mathlib.Core.Path.{_≡_, refl, sym, ap, ap₂, _∙_}
 use mathlib.Core.Logic.{_≢_}
 use mathlib.Core.List.{[], _∷_}
-use mathlib.Core.Bool.{Bool, true, false, _&&_}
+use mathlib.Core.Bool.{Bool, true}
 use lib.Dec.{leb}
-use lib.ListN.{length, getD, replicate}
+use lib.ListN.{length, getD}
 use borrow.Author.Tests.{leb-true}
 use Rattle.rules.specs.Words.{Bytes, num, words}
 use Rattle.rules.specs.Capabilities.{Kind, call, register, delete, setEntry, write, number, wordCount, Capability, greatestPrefix, prefix}
 use Rattle.rules.specs.Capabilities.{prefixInRange, coversKey, withinPrefix, coversAddress, withinRange, covers, within}
 use Rattle.laws.proofs.KindFacts.{number-inj}
-use Rattle.laws.proofs.Numerals.{all-bytes, num-zeros}
+use Rattle.laws.proofs.Numerals.{all-bytes}
 use Rattle.laws.proofs.Parts.{num-part}
-use Rattle.words.specs.Words.{WordPart}
-use Rattle.rights.specs.Rights.{KeyPart, capabilityIn}
-
--- Two tests, the second only where the first holds.
-pub and-then : {s a b r : Bool} → s ≡ a → s ≡ true → r ≡ b → r ≡ (a && b)
-and-then p e q = q ∙ rw (sym p ∙ e)
-
-pub and-stop : (b : Bool) {s a : Bool} → s ≡ a → s ≡ false → false ≡ (a && b)
-and-stop b p e = rw (sym p ∙ e)
-
--- a sum with a word of zeros
-pub plus-zeros : (x y : ℕ) → leb (x + num (replicate 32 0)) y ≡ leb x y
-plus-zeros x y = rw (num-zeros 32, add-zero x)
+use Rattle.moves.specs.Moves.{WordPart}
+use Rattle.prefixes.specs.Prefixes.{KeyPart}
+use Rattle.rights.specs.Rights.{capabilityIn}
 
 -- The types.
 is-entry : (k : Kind) {n : ℕ} → number k ≡ n → n ≡ 6 → k ≡ setEntry
@@ -87,6 +77,21 @@ prefix-fits t {first = first} w r =
     let low : leb (prefix (num first ∷ [])) greatestPrefix ≡ true =
     ap (λ c. leb (prefix c) greatestPrefix) (sym (one-word t w)) ∙ sym (t .range _) ∙ r in
     omega (arith, leb-true (prefix (num first ∷ [])) greatestPrefix low)
+
+-- a type with no prefix, and one with a prefix in its first word
+pub no-prefix : (k : Kind) {n : ℕ} → number k ≡ n → 5 < n → (c : Capability) → true ≡ prefixInRange k c
+unfolding number prefixInRange
+no-prefix call p h c = absurd (omega arith)
+no-prefix register p h c = absurd (omega arith)
+no-prefix delete p h c = absurd (omega arith)
+no-prefix setEntry p h c = refl
+no-prefix write p h c = refl
+
+pub first-prefix : {bs first : Bytes} {n : ℕ} → n ≤ 5 → WordPart bs 0 first → {r : Bool} → r ≡ leb (prefix (num first ∷ [])) greatestPrefix
+    → (k : Kind) → number k ≡ n → r ≡ prefixInRange k (capabilityIn k bs)
+first-prefix h w e k p =
+    let t = prefixed k p (λ z. omega arith) (λ z. omega arith) in
+    e ∙ ap (λ c. leb (prefix c) greatestPrefix) (sym (one-word t w)) ∙ sym (t .range _)
 
 -- the key in a key word
 pub key-number : {word part : Bytes} → KeyPart word part → length word ≡ 32 → ((i : ℕ) → getD word i 0 < 256)

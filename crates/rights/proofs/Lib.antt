@@ -1,3 +1,1 @@
-pub mod FirstBits
-pub mod PrefixWords
 pub mod ByType

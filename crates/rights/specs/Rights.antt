@@ -3,18 +3,17 @@ use Prim.Native.Nat.{ℕ, _*_, _^_, _≤_, _<_}
 use mathlib.Core.Path.{_≡_}
 use mathlib.Core.Logic.{_≢_}
 use mathlib.Core.Bool.{true}
-use lib.ListN.{length, take, drop}
+use lib.ListN.{length}
 use Rattle.rules.specs.Words.{Bytes, keyBytes, wordBytes, num, words}
-use Rattle.rules.specs.Capabilities.{Kind, write, number, wordCount, Capability, prefixInRange}
-
--- the last 24 bytes of a word
-pub record KeyPart (word part : Bytes) : Type 0 where
-  pub is : part ≡ take keyBytes (drop 8 word)
-  pub size : length part ≡ keyBytes
+use Rattle.rules.specs.Capabilities.{Kind, delete, write, number, wordCount, Capability, prefixInRange}
 
 -- the capability of a type whose words come first in bytes
 abbrev pub capabilityIn : Kind → Bytes → Capability
 capabilityIn kind bs = words (wordCount kind) bs
+
+-- what is asked where a prefix is judged: a type with a prefix has its word
+abbrev pub PrefixNeeds : (n : ℕ) → (capability : Bytes) → Type 0
+PrefixNeeds n capability = n ≤ number delete → wordBytes ≤ length capability
 
 -- what is asked where a capability is judged to cover a word's key, or for Write its address
 pub record CoversNeeds (n : ℕ) (capability x : Bytes) : Type 0 where

@@ -10,7 +10,7 @@ use lib.Dec.{lit<}
 use Rattle.rules.specs.Words.{keyBytes, Bytes}
 use Rattle.rules.specs.Capabilities.{wordOf, prefix, base, firstBits, coversKey, covers}
 use Rattle.rules.specs.Answers.{codeNumber, codeBytes, fields, Refusal, aa, ef, x33, e1, e5, e7, e9, refuse, outcome}
-use Rattle.rules.specs.Examples.{AllTrue, P1, P2, P3, P4, P5, P6, P7, P8, P9, P10, P11, cases, Refuses, characters, SetUpHas13Records, SetUpNeedsItsBytes, WriteSparesKernelStorage, RegisterReportsTests, RequestsAreTestedFirst, CodeIsJudgedBeforeSeries, KeyStandsOnce, KeyIsRegisteredOnce, Types8And9AreUnknown, ProgramPrints, computed}
+use Rattle.rules.specs.Examples.{AllTrue, P1, P2, P3, P4, P5, P6, P7, P8, P9, P10, P11, cases, Refuses, SetUpHas13Records, SetUpNeedsItsBytes, WriteSparesKernelStorage, RegisterReportsTests, RequestsAreTestedFirst, CodeIsJudgedBeforeSeries, KeyStandsOnce, KeyIsRegisteredOnce, Types8And9AreUnknown, computed}
 use Rattle.rules.proofs.Computing.{computing}
 
 no-prefix-covers-every-key : (w key : ℕ) → w < 256 ^ 31 → key < 256 ^ keyBytes → coversKey (w ∷ []) key ≡ true
@@ -111,10 +111,6 @@ types-8-and-9-are-unknown : Types8And9AreUnknown
 unfolding computing
 types-8-and-9-are-unknown = (refuses _ aa, refuses _ aa, refl, refl)
 
-program-prints : ProgramPrints
-unfolding computing characters
-program-prints = refl
-
 pub computed-hold : AllTrue computed
 unfolding computed
 computed-hold = (
@@ -129,7 +125,7 @@ computed-hold = (
           requests-are-tested-first,
           (
             code-is-judged-before-series,
-            (key-stands-once, (key-is-registered-once, (types-8-and-9-are-unknown, (program-prints, tt)))),
+            (key-stands-once, (key-is-registered-once, (types-8-and-9-are-unknown, tt))),
           ),
         ),
       ),

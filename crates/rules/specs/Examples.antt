@@ -2,7 +2,6 @@
 -- `computed`. Each list has one claim, that all of it is true: `P1-to-P11` and `computed-hold` of proofs/Examples.
 use Prim.Native.Nat.{ℕ, zero, suc, _+_, _*_, _^_, _-_, _<_}
 use Prim.Native.Char.{code}
-use Prim.Native.String.{String}
 use mathlib.Core.Path.{_≡_}
 use mathlib.Core.List.{List, [], _∷_, _++_}
 use mathlib.Core.Bool.{true, false}
@@ -16,7 +15,6 @@ use Rattle.rules.specs.Messages.{series, malformed}
 use Rattle.rules.specs.Validation.{passes}
 use Rattle.rules.specs.Answers.{fields, done, registered, Outcome}
 use Rattle.rules.specs.Calls.{setUp, systemCall}
-use Rattle.rules.specs.Program.{program}
 
 -- every statement of a list is true
 abbrev pub AllTrue : List (Type 0) → Type 0
@@ -223,11 +221,6 @@ writeThenSetEntry = requested write (writeCapability 1 1) ++ requested setEntry 
 abbrev pub setEntryThenTooMuch : List ℕ
 setEntryThenTooMuch = requested setEntry [] ++ requested write (writeCapability (2 ^ 256 - 1) 1)
 
--- the characters of a text, each as its byte
-unfoldable pub characters : String → Bytes
-characters String.[] = []
-characters (String._∷_ c more) = code c ∷ characters more
-
 -- "Set-up needs 13 records (832 bytes)"; "It overwrites the table whatever it held."
 abbrev pub SetUpHas13Records : Type 0
 SetUpHas13Records =
@@ -277,10 +270,6 @@ KeyStandsOnce = Refuses (0x66 ∷ 0xef ∷ []) listedTwice (sending listedTwice 
 abbrev pub KeyIsRegisteredOnce : Type 0
 KeyIsRegisteredOnce = Refuses (0x66 ∷ 0xe1 ∷ []) withThree (sending withThree (registerMessage K2 []))
 
--- "Input `00`, `01`, `07`, an empty line prints:"
-abbrev pub ProgramPrints : Type 0
-ProgramPrints = program (characters "00\n01\n07\n\n") ≡ characters "1\n0 aa\n0 66e0\n0 66e0\n"
-
 -- "Types 8 and 9 answer as unknown, in messages and in capabilities."
 abbrev pub Types8And9AreUnknown : Type 0
 Types8And9AreUnknown =
@@ -289,7 +278,7 @@ Types8And9AreUnknown =
     × (malformed (series (wordsInBytes (1 ∷ 8 ∷ []))) ≡ true)
     × (malformed (series (wordsInBytes (1 ∷ 9 ∷ []))) ≡ true)
 
--- the examples that are not marked P
+-- the examples that are not marked P; what the program prints is in the crate examples
 unfoldable pub computed : List (Type 0)
 computed =
     SetUpHas13Records
@@ -301,5 +290,4 @@ computed =
     ∷ KeyStandsOnce
     ∷ KeyIsRegisteredOnce
     ∷ Types8And9AreUnknown
-    ∷ ProgramPrints
     ∷ []

@@ -8,7 +8,7 @@ use mathlib.Core.Option.{none, some}
 use Rattle.rules.specs.Words.{keyBytes, addressBytes, wordBytes, Bytes, bytesOf}
 use Rattle.rules.specs.Table.{recordSize, greatestTable}
 use Rattle.rules.specs.KernelStorage.{kernelMark}
-use Rattle.rules.specs.Capabilities.{kinds, number, kindOf, wordCount, greatestWords, greatestPrefix}
+use Rattle.rules.specs.Capabilities.{Kind, kinds, number, kindOf, wordCount, greatestWords, greatestPrefix}
 use Rattle.rules.specs.Sound.{greatestCount}
 use Rattle.rules.specs.Messages.{greatestMessage, dataOf, payloadAt, seriesAt, minimum, payloadOf}
 use Rattle.rules.specs.Validation.{greatestCode}
@@ -28,6 +28,10 @@ wordsOf n = elim (kindOf n) [ none ↦ 0 | some kind ↦ wordCount kind ]
 
 unfoldable pub minimumOf : ℕ → ℕ
 minimumOf n = elim (kindOf n) [ none ↦ 0 | some kind ↦ minimum kind ]
+
+-- what P says of the type that a number names; nothing if it names none
+abbrev pub OfType : (n : ℕ) → (P : Kind → Type 0) → Type 0
+OfType n P = (kind : Kind) → number kind ≡ n → P kind
 
 -- the type with number n has r words
 pub record HasWords (n r : ℕ) : Type 0 where

@@ -19,9 +19,10 @@ use Rattle.rules.specs.Calls.{tooMany}
 use Rattle.rules.proofs.Source.{names-none}
 use Rattle.laws.proofs.KindFacts.{number-least, kindOf-number}
 use Rattle.laws.proofs.Numbers.{same-or-not}
-use Rattle.series.specs.Series.{WellFormedFrom, requestsFrom, RequestAt, capabilityAt, requestedCounts}
+use Rattle.requests.specs.Requests.{WellFormedFrom, requestsFrom, capabilityAt}
+use Rattle.series.specs.Series.{RequestAt, requestedCounts}
 use Rattle.series.specs.declared.Request.{Request as Found}
-use Rattle.series.proofs.Steps.{requests-start, requests-end}
+use Rattle.requests.proofs.Steps.{requests-start, requests-end}
 
 -- a type's number is below the length of the counts, since no number from there on names a type
 pub number-below : (kind : Kind) → number kind < 8
@@ -66,13 +67,20 @@ counted-none d w =
     }
 
 -- one more request
-one-more : (kind : Kind) (r : Request) (rs : List Request) → number kind ≡ number (r .kind) → count kind (r ∷ rs) ≡ suc (count kind rs)
-unfolding requestedOf sameKind
-one-more kind r rs e = let same : eqb (number kind) (number (r .kind)) ≡ true = eq-eqb _ _ e in rw (same, requestedOf)
+module _ (kind : Kind) (r : Request) (rs : List Request) where
+  pub requested-same : number kind ≡ number (r .kind) → requestedOf kind (r ∷ rs) ≡ r .capability ∷ requestedOf kind rs
+  unfolding requestedOf sameKind
+  requested-same e = let same : eqb (number kind) (number (r .kind)) ≡ true = eq-eqb _ _ e in rw (same, requestedOf)
 
-no-more : (kind : Kind) (r : Request) (rs : List Request) → (number kind ≡ number (r .kind) → ⊥) → count kind (r ∷ rs) ≡ count kind rs
-unfolding requestedOf sameKind
-no-more kind r rs n = let other : eqb (number kind) (number (r .kind)) ≡ false = ne-eqb _ _ n in rw (other, requestedOf)
+  pub requested-other : (number kind ≡ number (r .kind) → ⊥) → requestedOf kind (r ∷ rs) ≡ requestedOf kind rs
+  unfolding requestedOf sameKind
+  requested-other n = let other : eqb (number kind) (number (r .kind)) ≡ false = ne-eqb _ _ n in rw (other, requestedOf)
+
+  one-more : number kind ≡ number (r .kind) → count kind (r ∷ rs) ≡ suc (count kind rs)
+  one-more e = ap length (requested-same e)
+
+  no-more : (number kind ≡ number (r .kind) → ⊥) → count kind (r ∷ rs) ≡ count kind rs
+  no-more n = ap length (requested-other n)
 
 pub counted-more : {d : Bytes} {at : ℕ} {counts : List ℕ} {r : Found} → Counted d at counts → RequestAt d at r
     → Counted d (r .next) (set counts (r .kind .0) (getD counts (r .kind .0) 0 + 1))

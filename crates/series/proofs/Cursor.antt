@@ -11,11 +11,12 @@ use Rattle.rules.specs.Source.{wordsOf}
 use Rattle.laws.proofs.KindFacts.{kindOf-number, kindOf-some, number-small}
 use Rattle.laws.proofs.WordParts.{last-byte}
 use Rattle.laws.proofs.WordLists.{words-at}
-use Rattle.series.specs.Series.{WellFormedFrom, RequestAt, capabilityAt}
+use Rattle.requests.specs.Requests.{WellFormedFrom, capabilityAt}
+use Rattle.series.specs.Series.{RequestAt}
 use Rattle.series.specs.declared.Request.{Request}
-use Rattle.series.proofs.Types.{named-words}
-use Rattle.series.proofs.Here.{Good, requestOfKind}
-use Rattle.series.proofs.Steps.{First, first, Follows, follows, series-good, well-formed-whole, well-formed-first}
+use Rattle.requests.proofs.Types.{named-words}
+use Rattle.requests.proofs.Here.{Good, requestOfKind}
+use Rattle.requests.proofs.Steps.{First, first, Follows, follows, series-good, well-formed-whole, well-formed-first}
 
 type-byte : (d : Bytes) (at : ℕ) (kind : Kind) → Good d at kind → getD d (at + 64 - 1) 0 ≡ number kind
 type-byte d at kind g =

@@ -1,8 +1,2 @@
-pub mod Types
-pub mod Small
-pub mod Here
-pub mod Read
-pub mod Steps
-pub mod Walked
-pub mod Cursor
 pub mod Counted
+pub mod Cursor

@@ -1,76 +1,43 @@
--- One place of the list, what is asked besides the list, and the whole: the tests in the rules' order, each read from its slot.
+-- What is asked besides the list, and the whole: the tests in the rules' order, each read from its slot.
 use Prim.Native.Nat.{ℕ, _≤_, _<_, min}
 use native.Mathlib.Omega.{arith}
 use mathlib.Core.Path.{_≡_, refl, sym, ap, _∙_}
 use mathlib.Core.Bool.{Bool, true, false}
 use lib.ListN.{length}
-use borrow.Author.Tests.{eq-eqb, ne-eqb, le-leb, lt-leb}
+use borrow.Author.Tests.{le-leb, lt-leb}
 use Rattle.rules.specs.Words.{Bytes, num}
 use Rattle.rules.specs.Table.{Store, get, store, recordForm}
-use Rattle.rules.specs.KernelStorage.{addressSlot, indexSlot, lengthSlot, placeSlot, kernelAddressSlot, currentSlot, entrySlot}
-use Rattle.rules.specs.Capabilities.{kinds}
-use Rattle.rules.specs.Procedures.{listLength, keyAt, addressOf, indexOf, kernelAddress, current, entryKey, listed}
-use Rattle.rules.specs.Sound.{allOf, allPlaces, isKey, isAddress, kindSound, placeSound, recordBelongs, sound, soundTable}
+use Rattle.rules.specs.KernelStorage.{lengthSlot, kernelAddressSlot, currentSlot, entrySlot}
+use Rattle.rules.specs.Procedures.{listLength, kernelAddress, current, entryKey, listed}
+use Rattle.rules.specs.Sound.{allOf, allPlaces, isKey, isAddress, placeSound, recordBelongs, sound, soundTable}
 use Rattle.laws.proofs.Bools.{and-left}
 use Rattle.laws.proofs.Procedures.{list-short}
 use Rattle.laws.proofs.TableDecides.{soundTable-good}
 use Rattle.laws.proofs.TableRecords.{formed}
-use Rattle.laws.proofs.SoundTests.{longer-not-sound}
+use Rattle.laws.proofs.SoundTests.{other-not-listed, longer-not-sound}
 use Rattle.words.specs.Words.{smallLimit}
-use Rattle.slots.specs.Keys.{KeyOf}
+use Rattle.slots.specs.Slots.{KeyOf}
 use Rattle.table.specs.Tables.{formOf}
 use Rattle.table.specs.declared.Form.{Form}
 use Rattle.table.specs.declared.Form.the-variants.{Used, Bad}
 use Rattle.table.proofs.Forms.{used-form, used-count, bad-form}
-use Rattle.held.specs.Held.{WordOf}
+use Rattle.holding.specs.Holding.{WordOf}
 use Rattle.soundness.specs.declared.Soundness.{Soundness}
 use Rattle.soundness.specs.declared.Soundness.the-variants.{Sound, Unsound}
-use Rattle.soundness.specs.Soundness.{Occupied, Listing, SoundList, KeyPart, procedureSound, restSound, soundnessOf}
-use Rattle.soundness.proofs.Lookups.{at-slot, word-key, few}
+use Rattle.key_words.specs.KeyWords.{KeyPart}
+use Rattle.listing.specs.Listings.{Occupied, Listing}
+use Rattle.soundness.specs.Soundness.{SoundList, restSound, soundnessOf}
+use Rattle.listing.proofs.Lookups.{at-slot, word-key, few}
 
--- a procedure at a place: its address, then its index
-module _ (s : Store) (p n : ℕ) {key w : Bytes} (k : KeyOf (addressSlot p) key) (v : WordOf (get s (num key)) w)
-    {a : Bool} (e : a ≡ isAddress (num w)) where
-  address : {b : Bool} → a ≡ b → isAddress (addressOf s p) ≡ b
-  unfolding addressOf
-  address q = ap isAddress (sym (at-slot s k v)) ∙ sym e ∙ q
+-- a key in a word, where every place of the list is sound
+module _ {x : ℕ} {w : Bytes} (v : WordOf x w) {a : Bool} (e : a ≡ isKey (num w)) where
+  pub key-listed : (s : Store) → a ≡ true → {part : Bytes} → KeyPart (num w) part → {r : Bool} → r ≡ listed s (num part) → r ≡ listed s x
+  key-listed s q p d = d ∙ ap (listed s) (word-key v e q p)
 
-  pub no-address : a ≡ false → false ≡ procedureSound s p n
-  unfolding procedureSound
-  no-address q = rw (address q)
-
-  module _ (q : a ≡ true) (small : n ≤ 1024) {i : ℕ} (f : i ≡ min (get s (indexSlot p)) smallLimit) where
-    index : i ≡ min (indexOf s p) smallLimit
-    unfolding indexOf
-    index = f
-
-    pub other-index : (i ≡ n → ⊥) → false ≡ procedureSound s p n
-    unfolding procedureSound
-    other-index d = rw (address q, ne-eqb (indexOf s p) n (λ z. d (omega (arith, index))))
-
-    pub own-index : i ≡ n → {r : Bool} → r ≡ allOf (kindSound s p) kinds → r ≡ procedureSound s p n
-    unfolding procedureSound
-    own-index z h = rw (address q, eq-eqb (indexOf s p) n (omega (arith, index))) h
-
--- a place, by the key that stands there
-module _ (s : Store) (n : ℕ) {key w : Bytes} (k : KeyOf (placeSlot n) key) (v : WordOf (get s (num key)) w)
-    {a : Bool} (e : a ≡ isKey (num w)) where
-  here : num w ≡ keyAt s n
-  unfolding keyAt
-  here = at-slot s k v
-
-  standing : {b : Bool} → a ≡ b → isKey (keyAt s n) ≡ b
-  standing q = ap isKey (sym here) ∙ sym e ∙ q
-
-  pub no-key : a ≡ false → false ≡ placeSound s n
-  unfolding placeSound
-  no-key q = rw (standing q)
-
-  pub key-here : a ≡ true → {part : Bytes} → KeyPart (num w) part → {r : Bool} → r ≡ procedureSound s (num part) n → r ≡ placeSound s n
-  unfolding placeSound procedureSound
-  key-here q {part} c d =
-      let same : num part ≡ keyAt s n = word-key v e q c ∙ sym (v .number) ∙ here in
-      rw (standing q) (d ∙ ap (λ (x : ℕ). procedureSound s x n) same)
+  -- where every place is sound, what is no key is not listed
+  pub no-key-listed : {t : Bytes} {used places : ℕ} → SoundList t used places → a ≡ false → false ≡ listed (store t) x
+  no-key-listed {t} l q =
+      sym (other-not-listed (store t) (rw (l .all) at (l .sound)) x (ap isKey (sym (v .number)) ∙ sym e ∙ q))
 
 -- what is asked besides the list
 module _ (s : Store) {ofCurrent : Bytes} (k : KeyOf currentSlot ofCurrent) {a : Bool} (e : a ≡ listed s (get s (num ofCurrent))) where

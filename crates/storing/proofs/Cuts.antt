@@ -11,7 +11,8 @@ use Rattle.rules.specs.Table.{Store, _holds_, recordBytes}
 use Rattle.laws.proofs.Words.{length-word}
 use Rattle.laws.proofs.Tables.{length-records}
 use Rattle.laws.proofs.TableRecords.{records-append}
-use Rattle.storing.specs.Storing.{inserted, closed, replaced}
+use Rattle.closing.specs.Closing.{closed}
+use Rattle.gaps.specs.Gaps.{inserted, replaced}
 
 zeros : ℕ → Bytes
 zeros n = replicate n 0

@@ -4,21 +4,23 @@ use Prim.Native.Nat.{ℕ, zero, suc, _+_, _*_, _-_, _^_, _≤_, _<_}
 use native.Mathlib.Omega.{arith}
 use native.Mathlib.Numerals.{add-one}
 use mathlib.Core.Path.{_≡_, sym, ap, _∙_}
-use mathlib.Core.List.{_∷_, _++_}
+use mathlib.Core.List.{_++_}
 use mathlib.Core.Bool.{true, false}
 use lib.Dec.{eqb}
-use lib.ListN.{length, take, drop, replicate, length-append, length-take, length-drop, take-append-drop}
-use borrow.Author.Tests.{eqb-true, eqb-false}
+use lib.ListN.{length, take, drop, replicate}
 use Rattle.rules.specs.Words.{Bytes, AllBytes, num, word}
-use Rattle.rules.specs.Table.{Store, Record, _holds_, Ascending, Sized, put, recordBefore, recordBytes, bytes, room, store, recordForm}
+use Rattle.rules.specs.Table.{Store, Record, Ascending, Sized, put, recordBefore, recordBytes, bytes, room, store, recordForm}
 use Rattle.laws.proofs.Lists.{every-append, every-take, every-drop}
 use Rattle.laws.proofs.Words.{num-bound}
 use Rattle.laws.proofs.Numerals.{word-num}
-use Rattle.laws.proofs.Stores.{put-ascending, recordBefore-present}
+use Rattle.laws.proofs.Stores.{put-ascending}
 use Rattle.laws.proofs.Tables.{length-bytes, store-bytes}
 use Rattle.laws.proofs.TableRecords.{Formed, formed, bytes-formed}
-use Rattle.table.proofs.Places.{Present, Absent}
-use Rattle.storing.specs.Storing.{Stored, inserted, closed, replaced}
+use Rattle.finding.proofs.Places.{Present, Absent}
+use Rattle.closing.specs.Closing.{closed}
+use Rattle.gaps.specs.Gaps.{inserted, replaced}
+use Rattle.storing.specs.Storing.{Stored}
+use Rattle.room.proofs.Ways.{put-removes, put-replaces, put-stays, put-inserts, one-fewer, as-many, the-same, one-more}
 use Rattle.storing.proofs.Cuts.{inserted-is, closed-is, replaced-is}
 
 abbrev pub Words : Record → Type 0
@@ -46,40 +48,6 @@ recordBefore-words : (k v : ℕ) (s : Store) → k < 2 ^ 256 → v < 2 ^ 256 →
 unfolding recordBefore
 recordBefore-words k zero s hk hv z = z
 recordBefore-words k (suc v) s hk hv z = ((hk, hv), z)
-
-recordBefore-none : (k v : ℕ) (s : Store) → eqb v 0 ≡ true → recordBefore k v s ≡ s
-unfolding recordBefore
-recordBefore-none k v s q = rw (eqb-true v 0 q)
-
-recordBefore-some : (k v : ℕ) (s : Store) → eqb v 0 ≡ false → recordBefore k v s ≡ k holds v ∷ s
-recordBefore-some k v s q = recordBefore-present k v s (omega (arith, eqb-false v 0 q))
-
--- the four ways: what `put` makes of the store, and how many records that are
-module _ {s : Store} {k i : ℕ} (v : ℕ) (p : Present s k i) where
-  put-removes : eqb v 0 ≡ true → put s k v ≡ take i s ++ drop (suc i) s
-  put-removes z = p .puts v ∙ ap (λ (x : Store). take i s ++ x) (recordBefore-none k v (drop (suc i) s) z)
-
-  put-replaces : eqb v 0 ≡ false → put s k v ≡ take i s ++ (k holds v ∷ drop (suc i) s)
-  put-replaces z = p .puts v ∙ ap (λ (x : Store). take i s ++ x) (recordBefore-some k v (drop (suc i) s) z)
-
-  pub one-fewer : eqb v 0 ≡ true → length s - 1 ≡ length (put s k v)
-  one-fewer z = rw (put-removes z) (simp (length-append, length-take, length-drop) (omega (arith, p .inside)))
-
-  pub as-many : eqb v 0 ≡ false → length s ≡ length (put s k v)
-  as-many z = rw (put-replaces z) (simp (length-append, length-take, length-drop) (omega (arith, p .inside)))
-
-module _ {s : Store} {k i : ℕ} (v : ℕ) (p : Absent s k i) where
-  put-stays : eqb v 0 ≡ true → put s k v ≡ s
-  put-stays z = p .puts v ∙ ap (λ (x : Store). take i s ++ x) (recordBefore-none k v (drop i s) z) ∙ take-append-drop i s
-
-  put-inserts : eqb v 0 ≡ false → put s k v ≡ take i s ++ (k holds v ∷ drop i s)
-  put-inserts z = p .puts v ∙ ap (λ (x : Store). take i s ++ x) (recordBefore-some k v (drop i s) z)
-
-  pub the-same : eqb v 0 ≡ true → length s ≡ length (put s k v)
-  the-same z = rw (put-stays z)
-
-  pub one-more : eqb v 0 ≡ false → length s + 1 ≡ length (put s k v)
-  one-more z = rw (put-inserts z) (simp (length-append, length-take, length-drop) (omega (arith, p .inside)))
 
 -- what `put` requires, and that key and value are bytes
 pub record Asked (t key value : Bytes) (used : ℕ) : Type 0 where

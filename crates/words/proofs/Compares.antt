@@ -6,17 +6,18 @@ use lib.ListN.{take}
 use lib.Seq.{take-all}
 use Rattle.rules.specs.Words.{Bytes, num}
 use Rattle.laws.proofs.Numerals.{num-front-less}
-use Rattle.words.specs.Words.{orderOf, limbBase, Limb}
+use Rattle.limbs.specs.Limbs.{longLimbBase, LongLimb}
+use Rattle.words.specs.Words.{orderOf}
 use Rattle.words.specs.declared.Order.the-variants.{Less, Equal, Greater}
 use Rattle.words.proofs.Orders.{order-less, order-equal, order-greater}
-use Rattle.words.proofs.Limbs.{Word, limb-more}
+use Rattle.limbs.proofs.Limbs.{Word, long-limb-more}
 
 -- Two words agree before an offset.
 pub record Agree (a b : Bytes) (at : ℕ) : Type 0 where
   pub wordA : Word a
   pub wordB : Word b
   pub within : at ≤ 32
-  pub whole : at % 4 ≡ 0
+  pub whole : at % 8 ≡ 0
   pub so-far : num (take at a) ≡ num (take at b)
 
 pub agree-none : {a b : Bytes} → Word a → Word b → Agree a b 0
@@ -29,14 +30,14 @@ agree-all {a} {b} {at} s h =
     sym (order-equal (num a) (num b) (ap num (sym ea) ∙ s .so-far ∙ ap num eb))
 
 -- the limbs there, x of the one and y of the other
-module _ {a b : Bytes} {at : ℕ} (s : Agree a b at) (h : at < 32) {x y : ℕ} (p : Limb a at x) (q : Limb b at y) where
-  nextA : num (take (at + 4) a) ≡ num (take at a) * limbBase + x
-  nextA = limb-more (s .wordA) (omega arith) p
+module _ {a b : Bytes} {at : ℕ} (s : Agree a b at) (h : at < 32) {x y : ℕ} (p : LongLimb a at x) (q : LongLimb b at y) where
+  nextA : num (take (at + 8) a) ≡ num (take at a) * longLimbBase + x
+  nextA = long-limb-more (s .wordA) (omega arith) p
 
-  nextB : num (take (at + 4) b) ≡ num (take at b) * limbBase + y
-  nextB = limb-more (s .wordB) (omega arith) q
+  nextB : num (take (at + 8) b) ≡ num (take at b) * longLimbBase + y
+  nextB = long-limb-more (s .wordB) (omega arith) q
 
-  pub agree-more : x ≡ y → Agree a b (at + 4)
+  pub agree-more : x ≡ y → Agree a b (at + 8)
   agree-more e =
       record {
         wordA = s .wordA;
@@ -48,9 +49,9 @@ module _ {a b : Bytes} {at : ℕ} (s : Agree a b at) (h : at < 32) {x y : ℕ} (
 
   pub first-less : x < y → Less ≡ orderOf (num a) (num b)
   first-less l =
-      sym (order-less (num a) (num b) (num-front-less a b (at + 4) (omega arith) (s .wordA .bytes) (omega (arith, nextA, nextB))))
+      sym (order-less (num a) (num b) (num-front-less a b (at + 8) (omega arith) (s .wordA .bytes) (omega (arith, nextA, nextB))))
 
   pub first-greater : y < x → Greater ≡ orderOf (num a) (num b)
   first-greater l =
       sym (order-greater (num a) (num b)
-      (num-front-less b a (at + 4) (omega arith) (s .wordB .bytes) (omega (arith, nextA, nextB))))
+      (num-front-less b a (at + 8) (omega arith) (s .wordB .bytes) (omega (arith, nextA, nextB))))

@@ -1,8 +1,4 @@
-pub mod Overwrites
-pub mod Differences
 pub mod Orders
-pub mod Limbs
 pub mod Compares
-pub mod Sums
-pub mod Parts
+pub mod LastLimb
 pub mod OneHolds

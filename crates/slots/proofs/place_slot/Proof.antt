@@ -1,8 +1,8 @@
 -- The middle is 16 zeros and the 8 bytes of the place, whose number is the place: a `usize` always fits them.
 use native.Mathlib.Omega.{arith}
 use borrow.Author.Needs.{needs}
-use Rattle.rules.specs.KernelStorage.{placeSlot, ending}
-use Rattle.slots.proofs.Digits.{place-size, place-number}
+use Rattle.rules.specs.KernelStorage.{placeSlot}
+use Rattle.slots.proofs.Places.{place-size, place-number}
 use Rattle.slots.proofs.place_slot.Statement.{statement}
 use Rattle.slots.proofs.place_slot.Tie as tie
 
@@ -18,16 +18,16 @@ part-middle-end c = search needs
 write-number-requires : tie.Need-write-number-requires
 write-number-requires c κs = search needs
 
-slice-aggregate-slot : tie.Need-slice-aggregate-slot
-slice-aggregate-slot c = omega (arith, place-size _ _ (c .before .before .write-number .ensures))
+slice-aggregate-list-slot : tie.Need-slice-aggregate-list-slot
+slice-aggregate-list-slot c = omega (arith, place-size _ _ (c .before .before .write-number .ensures))
 
-slot-requires : tie.Need-slot-requires
-slot-requires c κs = omega (arith, place-size _ _ (c .before .before .write-number .ensures))
+list-slot-requires : tie.Need-list-slot-requires
+list-slot-requires c κs = omega (arith, place-size _ _ (c .before .before .write-number .ensures))
 
 returns : tie.Need-returns
-unfolding placeSlot ending
+unfolding placeSlot
 returns c =
-    rw (place-number _ _ (c .before .before .before .write-number .ensures) (c .before .before .before .before .before .fits .n .fits)) at (c .slot .ensures)
+    rw (place-number _ _ (c .before .before .before .write-number .ensures) (c .before .before .before .before .before .fits .n .fits)) at (c .list-slot .ensures)
 
 pub place-slot-spec : {M : Type 1} → statement M
 place-slot-spec =
@@ -37,6 +37,6 @@ place-slot-spec =
     part-middle-start
     part-middle-end
     write-number-requires
-    slice-aggregate-slot
-    slot-requires
+    slice-aggregate-list-slot
+    list-slot-requires
     returns)

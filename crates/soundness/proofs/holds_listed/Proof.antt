@@ -1,7 +1,7 @@
 -- Where the places are sound only a key is listed.
 use borrow.Author.Needs.{needs}
 use Rattle.rules.specs.Table.{store}
-use Rattle.soundness.proofs.Lookups.{key-listed, no-key-listed}
+use Rattle.soundness.proofs.Whole.{key-listed, no-key-listed}
 use Rattle.soundness.proofs.holds_listed.Statement.{statement}
 use Rattle.soundness.proofs.holds_listed.Tie as tie
 

@@ -1,7 +1,7 @@
 -- The list of a sound table is as long as its store at most, so `small` gives its whole length.
 use borrow.Author.Needs.{needs}
 use Rattle.rules.specs.Table.{store}
-use Rattle.soundness.proofs.Lookups.{small-at}
+use Rattle.listing.proofs.Lookups.{small-at}
 use Rattle.soundness.proofs.Whole.{sound-occupied, sound-listing}
 use Rattle.soundness.proofs.list_length.Statement.{statement}
 use Rattle.soundness.proofs.list_length.Tie as tie

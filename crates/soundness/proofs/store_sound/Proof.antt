@@ -2,7 +2,7 @@
 use borrow.Author.Needs.{needs}
 use Rattle.rules.specs.Table.{store}
 use Rattle.soundness.proofs.Whole.{list-empty, list-too-long, sound-list, place-unsound, places-sound}
-use Rattle.soundness.proofs.Lookups.{small-at}
+use Rattle.listing.proofs.Lookups.{small-at}
 use Rattle.soundness.proofs.store_sound.Statement.{statement}
 use Rattle.soundness.proofs.store_sound.Tie as tie
 

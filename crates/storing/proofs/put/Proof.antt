@@ -1,10 +1,11 @@
 -- In each of its four ways what is left holds the store with the key set.
 use native.Mathlib.Omega.{arith}
+use mathlib.Core.Path.{sym, _∙_}
 use Rattle.rules.specs.Words.{num}
 use Rattle.rules.specs.Table.{store}
 use Rattle.laws.proofs.Numerals.{all-bytes}
-use Rattle.table.proofs.Places.{Present, Absent}
-use Rattle.table.proofs.Finding.{found, missed}
+use Rattle.finding.proofs.Places.{Present, Absent}
+use Rattle.finding.proofs.Finding.{found, missed}
 use Rattle.storing.proofs.Puts.{Asked, stored-as, has-fits, gap-fits, gap-takes, removes, replaces, stays, inserts}
 use borrow.Author.Needs.{needs}
 use Rattle.storing.proofs.put.Statement.{statement}
@@ -70,7 +71,7 @@ insert-requires : tie.Need-insert-requires
 insert-requires c κs =
     let w = c .before .before in
     let known = asked (w .before .before .before) in
-    omega (arith, gap-fits known (gap w), gap-takes known (gap w) (cc))
+    omega (arith, gap-fits known (gap w), gap-takes known (gap w) (sym (w .before .before .before .before .before .is-zero .ensures) ∙ c .before .if2 .left))
 
 add-result : tie.Need-add-result
 add-result c =
@@ -83,7 +84,7 @@ same-length c = search needs
 returns : tie.Need-returns
 returns c =
     let w = c .before .before .before .before .before in
-    stored-as (c .before .before .close .ensures) (removes (asked (w .before .before .before)) (has w) (cc))
+    stored-as (c .before .before .close .ensures) (removes (asked (w .before .before .before)) (has w) (sym (w .before .before .before .before .before .is-zero .ensures) ∙ c .before .before .before .before .if1 .taken))
 
 same-length-2 : tie.Need-same-length-2
 same-length-2 c = search needs
@@ -91,7 +92,7 @@ same-length-2 c = search needs
 returns-2 : tie.Need-returns-2
 returns-2 c =
     let w = c .before .before .before .before .before in
-    stored-as (c .before .before .replace .ensures) (replaces (asked (w .before .before .before)) (has w) (cc))
+    stored-as (c .before .before .replace .ensures) (replaces (asked (w .before .before .before)) (has w) (sym (w .before .before .before .before .before .is-zero .ensures) ∙ c .before .before .before .before .if1 .left))
 
 same-length-3 : tie.Need-same-length-3
 same-length-3 c = search needs
@@ -99,7 +100,7 @@ same-length-3 c = search needs
 returns-3 : tie.Need-returns-3
 returns-3 c =
     let w = c .before in
-    stays (asked (w .before .before .before)) (gap w) (cc)
+    stays (asked (w .before .before .before)) (gap w) (sym (w .before .before .before .before .before .is-zero .ensures) ∙ c .if2 .taken)
 
 same-length-4 : tie.Need-same-length-4
 same-length-4 c = search needs
@@ -107,7 +108,7 @@ same-length-4 c = search needs
 returns-4 : tie.Need-returns-4
 returns-4 c =
     let w = c .before .before .before .before .before in
-    stored-as (c .before .before .insert .ensures) (inserts (asked (w .before .before .before)) (gap w) (cc))
+    stored-as (c .before .before .insert .ensures) (inserts (asked (w .before .before .before)) (gap w) (sym (w .before .before .before .before .before .is-zero .ensures) ∙ c .before .before .before .before .if2 .left))
 
 pub put-spec : {M : Type 1} → statement M
 put-spec =

@@ -2,6 +2,8 @@
 -- so the occupied records lie within the table.
 use Prim.Native.Nat.{_-_}
 use native.Mathlib.Omega.{arith}
+use mathlib.Core.Path.{sym, ap₂, _∙_}
+use lib.Dec.{ltb}
 use Rattle.laws.proofs.Numerals.{all-bytes}
 use Rattle.laws.proofs.TableRecords.{store-within}
 use Rattle.table.proofs.Forms.{Climbed, climb-starts, climb-turns, climb-stops, climb-ends}
@@ -46,10 +48,14 @@ loop-less : tie.Need-loop-less Inv-loop μ-loop
 loop-less c = search needs
 
 loop-again : tie.Need-loop-again Inv-loop μ-loop
-loop-again c = climb-turns (c .before .before .before .before .before .loop .inv) (search needs) (cc)
+loop-again c =
+    climb-turns (c .before .before .before .before .before .loop .inv) (search needs)
+    (ap₂ ltb (sym (c .before .before .before .word-at .ensures .number)) (sym (c .before .before .word-at2 .ensures .number)) ∙ sym (c .before .below .ensures) ∙ c .if1 .taken)
 
 returns : tie.Need-returns Inv-loop μ-loop
-returns c = climb-stops (c .before .before .before .before .before .loop .inv) (search needs) (cc)
+returns c =
+    climb-stops (c .before .before .before .before .before .loop .inv) (search needs)
+    (ap₂ ltb (sym (c .before .before .before .word-at .ensures .number)) (sym (c .before .before .word-at2 .ensures .number)) ∙ sym (c .before .below .ensures) ∙ c .if1 .left)
 
 returns-2 : tie.Need-returns-2 Inv-loop μ-loop
 returns-2 c = climb-ends (c .before .loop .inv) (search needs)

@@ -1,5 +1,7 @@
 -- The invariant is `Counted`: how many of the occupied records are still ahead.
-use Prim.Native.Nat.{_-_}
+use Prim.Native.Nat.{ℕ, _-_}
+use mathlib.Core.Path.{sym, ap, _∙_}
+use lib.Dec.{eqb}
 use Rattle.table.proofs.Forms.{Counted, count-starts, count-stops, count-turns, count-ends}
 use borrow.Author.Needs.{needs}
 use Rattle.table.proofs.count.Statement.{statement}
@@ -29,7 +31,8 @@ is-zero-requires c κs = search needs
 returns : tie.Need-returns Inv-loop μ-loop
 returns c =
     let l = c .before .before .before .before in
-    count-stops (l .loop .inv) (search needs) (cc)
+    count-stops (l .loop .inv) (search needs)
+    (ap (λ (x : ℕ). eqb x 0) (sym (c .before .before .word-at .ensures .number)) ∙ sym (c .before .is-zero .ensures) ∙ c .if1 .taken)
 
 add-i : tie.Need-add-i Inv-loop μ-loop
 add-i c = search needs
@@ -40,7 +43,8 @@ loop-less c = search needs
 loop-again : tie.Need-loop-again Inv-loop μ-loop
 loop-again c =
     let l = c .before .before .before .before in
-    count-turns (l .loop .inv) (search needs) (cc)
+    count-turns (l .loop .inv) (search needs)
+    (ap (λ (x : ℕ). eqb x 0) (sym (c .before .before .word-at .ensures .number)) ∙ sym (c .before .is-zero .ensures) ∙ c .if1 .left)
 
 returns-2 : tie.Need-returns-2 Inv-loop μ-loop
 returns-2 c = count-ends (c .before .loop .inv) (search needs)

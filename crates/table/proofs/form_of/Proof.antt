@@ -1,5 +1,6 @@
 -- Each return names the part of the record form that failed, or that none did. `Measured` is what is known once the records are counted.
 use native.Mathlib.Omega.{arith}
+use mathlib.Core.Path.{sym, _∙_}
 use Rattle.laws.proofs.Numerals.{all-bytes}
 use Rattle.table.proofs.Forms.{form-not-whole, form-too-long, form-bad, Measured, used-within, form-unsorted, form-unclean, form-used}
 use borrow.Author.Needs.{needs}
@@ -45,13 +46,17 @@ is-zero-requires : tie.Need-is-zero-requires
 is-zero-requires c κs = search needs
 
 returns-3 : tie.Need-returns-3
-returns-3 c = form-used (measured (c .before .before .before .before .before)) (cc) (cc)
+returns-3 c =
+    form-used (measured (c .before .before .before .before .before))
+    (sym (c .before .before .before .before .ascending .ensures) ∙ c .before .before .before .if3 .taken) (sym (c .before .is-zero .ensures) ∙ c .if4 .taken)
 
 returns-4 : tie.Need-returns-4
-returns-4 c = form-unclean (measured (c .before .before .before .before .before)) (cc) (cc)
+returns-4 c =
+    form-unclean (measured (c .before .before .before .before .before))
+    (sym (c .before .before .before .before .ascending .ensures) ∙ c .before .before .before .if3 .taken) (sym (c .before .is-zero .ensures) ∙ c .if4 .left)
 
 returns-5 : tie.Need-returns-5
-returns-5 c = form-unsorted (measured (c .before .before)) (cc)
+returns-5 c = form-unsorted (measured (c .before .before)) (sym (c .before .ascending .ensures) ∙ c .if3 .left)
 
 pub form-of-spec : {M : Type 1} → statement M
 form-of-spec =

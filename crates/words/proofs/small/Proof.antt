@@ -1,7 +1,8 @@
 -- Where the bytes before the last limb are zero, the limb is the number; where not, the number is 2^32 or more.
 use mathlib.Core.Path.{sym, _∙_}
 use borrow.Author.Needs.{needs}
-use Rattle.words.proofs.Limbs.{a-word, is-small, not-small}
+use Rattle.limbs.proofs.Limbs.{a-word}
+use Rattle.words.proofs.LastLimb.{is-small, not-small}
 use Rattle.words.proofs.small.Statement.{statement}
 use Rattle.words.proofs.small.Tie as tie
 

@@ -1,0 +1,15 @@
+-- The word at its offset is the field.
+use borrow.Author.Needs.{needs}
+use Rattle.rules.specs.Messages.{addressWord}
+use Rattle.fields.proofs.address_word.Statement.{statement}
+use Rattle.fields.proofs.address_word.Tie as tie
+
+word-at-requires : tie.Need-word-at-requires
+word-at-requires c κs = search needs
+
+returns : tie.Need-returns
+unfolding addressWord
+returns c = record { size = c .word-at .ensures .size; number = c .word-at .ensures .number }
+
+pub address-word-spec : {M : Type 1} → statement M
+address-word-spec = tie.close (tie.spec word-at-requires returns)

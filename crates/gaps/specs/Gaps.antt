@@ -1,0 +1,16 @@
+-- A table's bytes once a record is put in it, or changed.
+use Prim.Native.Nat.{ℕ, _+_, _*_, _-_}
+use mathlib.Core.List.{_++_}
+use lib.ListN.{take, drop}
+use Rattle.rules.specs.Words.{Bytes, wordBytes}
+use Rattle.rules.specs.Table.{recordSize}
+
+-- a table's bytes with a record put in before record i of the `used`
+unfoldable pub inserted : (i used : ℕ) (key value t : Bytes) → Bytes
+inserted i used k v t =
+    take (recordSize * i) t
+    ++ (k ++ (v ++ (take (recordSize * used - recordSize * i) (drop (recordSize * i) t) ++ drop (recordSize * used + recordSize) t)))
+
+-- a table's bytes with another value in record i
+unfoldable pub replaced : (i : ℕ) (value t : Bytes) → Bytes
+replaced i v t = take (recordSize * i + wordBytes) t ++ (v ++ drop (recordSize * i + recordSize) t)

@@ -1,0 +1,2 @@
+pub mod KeyWritten
+pub mod Digits
