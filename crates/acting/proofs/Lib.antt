@@ -1,0 +1,3 @@
+pub mod Holder
+pub mod Chosen
+pub mod Permission

@@ -1,0 +1,9 @@
+pub mod Room
+pub mod Left
+pub mod CapabilityWords
+pub mod Requested
+pub mod AllTypes
+pub mod First
+pub mod Counting
+pub mod AnyOrder
+pub mod Added

@@ -1,0 +1,20 @@
+-- The series requests what set-up gives: both sides are computed.
+use mathlib.Core.Path.{_≡_, refl}
+use mathlib.Core.Bool.{false}
+use Rattle.rules.specs.Messages.{requests, seriesAt}
+use Rattle.rules.specs.Calls.{tooMany, firstCapabilities}
+use Rattle.rules.proofs.Computing.{computing}
+use Rattle.requests.specs.Requests.{WellFormedFrom}
+use Rattle.founding.specs.Founding.{firstSeries, wordsOf}
+
+pub first-requests : requests firstSeries ≡ firstCapabilities
+unfolding computing firstSeries wordsOf
+first-requests = refl
+
+pub first-well-formed : WellFormedFrom firstSeries seriesAt
+unfolding computing firstSeries wordsOf
+first-well-formed = refl
+
+pub first-few : tooMany firstCapabilities ≡ false
+unfolding computing
+first-few = refl

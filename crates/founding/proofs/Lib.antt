@@ -1,0 +1,3 @@
+pub mod FirstSeries
+pub mod Fixed
+pub mod Founded

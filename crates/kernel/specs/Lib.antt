@@ -1,0 +1,3 @@
+pub mod Promises
+pub mod Parts
+pub mod Demanded

@@ -1,0 +1,141 @@
+// The kernel: set-up, Turn, Look and the system calls on a lent table. No function asks anything of what it is lent: each
+// promises the whole answer and every byte of the table after, for every input.
+use rules::Answer;
+use rules::Refusal;
+use rules::Reply;
+use soundness::Soundness;
+ghost use mathlib.Core.Path.{_≡_};
+ghost use mathlib.Core.List.{[]};
+ghost use lib.ListN.{length};
+ghost use Rattle.rules.specs.Words.{keyBytes};
+ghost use Rattle.rules.specs.Answers.{outcome};
+ghost use Rattle.results.specs.Results.{SoundWith, Gives};
+ghost use Rattle.kernel.specs.Promises.{SetUpPromise, TurnPromise, LookPromise, SystemCallPromise, PayloadPromise};
+ghost use Rattle.kernel.specs.Parts.{RightSizes, setUpOnSizes, turnOnSound};
+
+// The bytes of the 13 records that set-up needs.
+const FIRST_ROOM: usize = 13 * rules::RECORD_SIZE;
+
+// Set-up once the sizes are right: 66 e4, 66 e7; then the first table, whatever the table held.
+fn set_up_fresh(t: &mut [u8], key: &[u8], address: &[u8], kernel_address: &[u8]) -> Reply
+    requires { ⌜ RightSizes (now t) (now key) (now address) (now «kernel_address») ⌝ }
+    ensures { λ r. ⌜ Gives (outcome (now (t .entry)) (setUpOnSizes (now (t .entry)) (now (key .entry)) (now (address .entry)) (now («kernel_address» .entry)))) r (now (t .exit)) ⌝ }
+{
+    if words::is_zero(key) {
+        return Reply::refused(Refusal::ZERO);
+    }
+    if words::is_zero(address) {
+        return Reply::refused(Refusal::ZERO);
+    }
+    if words::is_zero(kernel_address) {
+        return Reply::refused(Refusal::ZERO);
+    }
+    if t.len() < FIRST_ROOM {
+        return Reply::refused(Refusal::NO_ROOM);
+    }
+    founding::found(t, key, address, kernel_address);
+    Reply::done()
+}
+
+// Set-up: 66 ed for each size, 66 ef for the table's length; then the rest.
+pub fn set_up(t: &mut [u8], key: &[u8], address: &[u8], kernel_address: &[u8]) -> Reply
+    ensures { λ r. ⌜ SetUpPromise (now (t .entry)) (now (key .entry)) (now (address .entry)) (now («kernel_address» .entry)) r (now (t .exit)) ⌝ }
+{
+    if key.len() != rules::KEY_BYTES {
+        return Reply::refused(Refusal::WRONG_BYTES);
+    }
+    if address.len() != rules::ADDRESS_BYTES {
+        return Reply::refused(Refusal::WRONG_BYTES);
+    }
+    if kernel_address.len() != rules::ADDRESS_BYTES {
+        return Reply::refused(Refusal::WRONG_BYTES);
+    }
+    if t.len() % rules::RECORD_SIZE != 0 {
+        return Reply::refused(Refusal::UNSOUND);
+    }
+    if rules::GREATEST_TABLE < t.len() {
+        return Reply::refused(Refusal::UNSOUND);
+    }
+    set_up_fresh(t, key, address, kernel_address)
+}
+
+// Turn on a sound table: 66 33; then the current slot alone changes.
+fn turn_to(t: &mut [u8], used: usize, key: &[u8]) -> Reply
+    requires { ⌜ SoundWith (now t) used ⌝ }
+    requires { ⌜ length (now key) ≡ keyBytes ⌝ }
+    ensures { λ r. ⌜ Gives (outcome (now (t .entry)) (turnOnSound (now (t .entry)) (now (key .entry)))) r (now (t .exit)) ⌝ }
+{
+    if !acting::is_listed(t, used, key) {
+        return Reply::refused(Refusal::NOT_LISTED);
+    }
+    let slot = slots::current_slot();
+    storing::put(t, used, &slot, &right::right_word(key));
+    Reply::done()
+}
+
+// Turn: the host names the running procedure.
+pub fn turn(t: &mut [u8], key: &[u8]) -> Reply
+    ensures { λ r. ⌜ TurnPromise (now (t .entry)) (now (key .entry)) r (now (t .exit)) ⌝ }
+{
+    if key.len() != rules::KEY_BYTES {
+        return Reply::refused(Refusal::WRONG_BYTES);
+    }
+    match soundness::sound(t) {
+        Soundness::Unsound => Reply::refused(Refusal::UNSOUND),
+        Soundness::Sound(used) => turn_to(t, used, key),
+    }
+}
+
+// Look: one slot's value.
+pub fn look(t: &[u8], slot: &[u8]) -> Reply
+    ensures { λ r. ⌜ LookPromise (now (t .entry)) (now (slot .entry)) r (now (t .entry)) ⌝ }
+{
+    if slot.len() != rules::WORD_BYTES {
+        return Reply::refused(Refusal::WRONG_BYTES);
+    }
+    match soundness::sound(t) {
+        Soundness::Unsound => Reply::refused(Refusal::UNSOUND),
+        Soundness::Sound(used) => Reply::looked(records::look(t, used, slot)),
+    }
+}
+
+// A system call: 66 ed, 66 ef, 66 e0 for an empty message, 66 ea; then the message.
+pub fn system_call(t: &mut [u8], message: &[u8], code: &[u8], mask: &[u8]) -> Reply
+    ensures { λ r. ⌜ SystemCallPromise (now (t .entry)) (now (message .entry)) (now (code .entry)) (now (mask .entry)) r (now (t .exit)) ⌝ }
+{
+    if mask.len() != rules::WORD_BYTES {
+        return Reply::refused(Refusal::WRONG_BYTES);
+    }
+    match soundness::sound(t) {
+        Soundness::Unsound => Reply::refused(Refusal::UNSOUND),
+        Soundness::Sound(used) => {
+            if message.len() == 0 {
+                return Reply::refused(Refusal::SHORT);
+            }
+            if rules::GREATEST_MESSAGE < message.len() {
+                return Reply::refused(Refusal::MESSAGE_TOO_LONG);
+            }
+            system::of_message(t, used, message, code, mask)
+        }
+    }
+}
+
+// The empty part of a message, at its end.
+fn empty_part(message: &[u8]) -> &[u8]
+    ensures { λ r. ⌜ now r ≡ [] ⌝ }
+{
+    &message[message.len()..]
+}
+
+// The payload of a Call that was permitted: a part of the caller's own message, and no copy. For every other answer it is empty.
+pub fn payload(message: &[u8], answer: Answer) -> &[u8]
+    ensures { λ r. ⌜ PayloadPromise (now (message .entry)) answer (now r) ⌝ }
+{
+    match answer {
+        Answer::Called => messages::payload_of(message),
+        Answer::Refused(_) => empty_part(message),
+        Answer::Done => empty_part(message),
+        Answer::Registered(_) => empty_part(message),
+        Answer::Looked => empty_part(message),
+    }
+}
