@@ -1,8 +1,8 @@
--- For callers: what `permits` asks of the key or address that a message names, and what its answer says of a row. The two checks
--- for the index and for covering have one code, so it decides both.
+-- For callers: what `permits` asks of the key or address that a message names, and what its answer and that of `is_listed` say of a
+-- row. The two checks for the index and for covering have one code, so `permits` decides both.
 use Prim.Native.Nat.{ℕ, _*_, _^_, _≤_}
 use native.Mathlib.Omega.{arith}
-use mathlib.Core.Path.{_≡_, refl, ap, _∙_}
+use mathlib.Core.Path.{_≡_, refl, sym, ap, _∙_}
 use mathlib.Core.List.{List, _∷_}
 use mathlib.Core.Bool.{Bool, true, false, not, _&&_}
 use lib.ListN.{length}
@@ -10,14 +10,14 @@ use borrow.Author.Tests.{leb-false}
 use Rattle.rules.specs.Words.{Bytes, wordBytes, keyBytes, num}
 use Rattle.rules.specs.Table.{store}
 use Rattle.rules.specs.Capabilities.{Kind, write, number}
+use Rattle.rules.specs.Procedures.{listed}
 use Rattle.rules.specs.Messages.{keyTooLong, keyWord, writeAddress}
 use Rattle.rules.specs.Answers.{Refusal, Result, refuse, Check, _⇒_, judge}
 use Rattle.rules.specs.Calls.{indexOutOfRange, notCovering}
-use Rattle.rules.specs.Source.{OfType}
 use Rattle.words.specs.Words.{Holds}
 use Rattle.results.specs.Results.{NamesKey}
 use Rattle.results.proofs.Rows.{either-refuses, both-pass}
-use Rattle.acting.specs.Acting.{ActsOn}
+use Rattle.acting.specs.Acting.{ActsOn, Permits}
 
 -- a message acts on the key that it names, and a Write on its address
 pub acts-on-key : (kind : Kind) {n : ℕ} → number kind ≡ n → {d x : Bytes} → NamesKey d → Holds wordBytes x (keyWord d) → ActsOn n d x
@@ -35,9 +35,14 @@ pub acts-on-address : {n : ℕ} → number write ≡ n → {d x : Bytes} → 3 *
 acts-on-address q l h =
     record { kind = write; names = q; long = omega (arith, l); word = h .size; key = λ other. absurd (other refl) }
 
+-- whether a key is listed, as the code found it of the bytes that hold the key
+pub listed-judged : (t : Bytes) {key : Bytes} {y : ℕ} → Holds keyBytes key y → {l : Bool} → l ≡ listed (store t) (num key)
+    → {b : Bool} → l ≡ b → listed (store t) y ≡ b
+listed-judged t k e q = ap (listed (store t)) (sym (k .number)) ∙ sym e ∙ q
+
 -- p is what `permits` answers for the word x, which holds y
 module _ (t d : Bytes) (kind : Kind) (y : ℕ) {x : Bytes} (named : Holds wordBytes x y) {p : Bool}
-    (e : OfType (number kind) (λ k. p ≡ (not (indexOutOfRange (store t) d k) && not (notCovering (store t) d k (num x))))) where
+    (e : Permits t d (number kind) (num x) p) where
   abbrev out : Bool
   out = indexOutOfRange (store t) d kind
 

@@ -1,16 +1,16 @@
 // What the current procedure may do, and whether a key is listed: what the rows of the system calls ask of a sound table.
 ghost use mathlib.Core.Path.{_≡_};
-ghost use mathlib.Core.Bool.{_&&_, not};
+ghost use mathlib.Core.Bool.{not};
 ghost use Prim.Native.Nat.{_≤_};
 ghost use lib.ListN.{length};
 ghost use Rattle.rules.specs.Words.{wordBytes, keyBytes, num};
 ghost use Rattle.rules.specs.Table.{store};
 ghost use Rattle.rules.specs.Procedures.{current, listed};
-ghost use Rattle.rules.specs.Calls.{indexOutOfRange, notCovering};
+ghost use Rattle.rules.specs.Calls.{indexOutOfRange};
 ghost use Rattle.rules.specs.Source.{OfType};
 ghost use Rattle.words.specs.Words.{Holds};
 ghost use Rattle.results.specs.Results.{SoundWith};
-ghost use Rattle.acting.specs.Acting.{ActsOn};
+ghost use Rattle.acting.specs.Acting.{ActsOn, Permits};
 
 // The word that holds the current key.
 pub fn current(t: &[u8], used: usize) -> [u8; rules::WORD_BYTES]
@@ -46,7 +46,7 @@ pub fn index_in_range(t: &[u8], used: usize, kind: rules::Kind, d: &[u8]) -> boo
 pub fn permits(t: &[u8], used: usize, kind: rules::Kind, d: &[u8], x: &[u8]) -> bool
     requires { ⌜ SoundWith (now t) used ⌝ }
     requires { ⌜ ActsOn (kind .0) (now d) (now x) ⌝ }
-    ensures { λ r. ⌜ OfType (kind .0) (λ k. r ≡ (not (indexOutOfRange (store (now (t .entry))) (now (d .entry)) k) && not (notCovering (store (now (t .entry))) (now (d .entry)) k (num (now (x .entry)))))) ⌝ }
+    ensures { λ r. ⌜ Permits (now (t .entry)) (now (d .entry)) (kind .0) (num (now (x .entry))) r ⌝ }
 {
     if index_in_range(t, used, kind, d) {
         let holder = current(t, used);

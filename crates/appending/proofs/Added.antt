@@ -8,7 +8,7 @@ use mathlib.Core.Bool.{false, true≢false}
 use lib.ListN.{length}
 use Rattle.rules.specs.Words.{Every}
 use Rattle.rules.specs.Table.{Store, Record, _holds_, get, put, puts, recordBefore, Ascending}
-use Rattle.rules.specs.KernelStorage.{slot, addressSlot, indexSlot, lengthSlot, placeSlot}
+use Rattle.rules.specs.KernelStorage.{slot, addressSlot, lengthSlot, placeSlot}
 use Rattle.rules.specs.Capabilities.{kinds}
 use Rattle.rules.specs.Procedures.{listLength, listed}
 use Rattle.rules.specs.Sound.{IsKey, IsAddress}
@@ -17,10 +17,11 @@ use Rattle.rules.specs.Calls.{kindRecords, afterRegister}
 use Rattle.laws.proofs.Stores.{put-ascending, get-put-other, put-no-longer, put-no-shorter, put-absent, Misses}
 use Rattle.laws.proofs.Records.{Apart, rising-each}
 use Rattle.laws.proofs.Procedures.{Good, bodyOf, listed-here, nothing-stored, nothing-behind}
-use Rattle.demands.proofs.RegisterRecords.{Storable, Registration, slot-after}
-use Rattle.demands.proofs.Register.{own-rises, apart}
-use Rattle.appending.specs.Appending.{takenBy, nonZero, ownRecords, firstRecords}
-use Rattle.appending.proofs.Room.{taken-none, taken-one}
+use Rattle.laws.proofs.RegisterRecords.{Storable, Registration, slot-after}
+use Rattle.laws.proofs.NewRecords.{procedureRecords, own-rises, apart}
+use Rattle.counting.specs.Counting.{takenBy, nonZero}
+use Rattle.counting.proofs.OneValue.{taken-none, taken-one}
+use Rattle.appending.specs.Appending.{ownRecords, headRecords}
 
 -- Records whose keys are absent and stand only once.
 recordBefore-taken : (k v : ℕ) (s : Store) → length (recordBefore k v s) ≡ length s + takenBy v
@@ -62,7 +63,7 @@ module _ {n : ℕ} {s : Store} {p a : ℕ} {rs : List Request} (g : Good n s) (i
       }
 
   abbrev own : List Record
-  own = addressSlot p holds a ∷ indexSlot p holds suc N ∷ kindRecords p rs kinds
+  own = procedureRecords (suc N) p a rs
 
   own-absent : Absent s own
   own-absent = rising-each (λ k. get s k ≡ 0) (addressSlot p) (addressSlot p + 2 ^ 24) own (own-rises new) absent
@@ -114,12 +115,12 @@ module _ {n : ℕ} {s : Store} {p a : ℕ} {rs : List Request} (g : Good n s) (i
   registered-length =
       omega (arith, behind own (apart new) own-absent, taken-one a (isAddress .nonZero), taken-one (suc N) (omega arith))
 
-  -- the first records by themselves: what `append` asks room for
-  pub first-length : length (puts s (firstRecords (suc N) p a)) ≡ length s + 3
+  -- the head records by themselves: what `append` asks room for
+  pub head-length : length (puts s (headRecords (suc N) p a)) ≡ length s + 3
   unfolding nonZero
-  first-length =
+  head-length =
       let alone = apart new in
-      let two : Apart (firstRecords (suc N) p a) = (
+      let two : Apart (headRecords (suc N) p a) = (
         (alone .0 .0, (alone .0 .1 .0, (alone .0 .1 .1 .0, tt))),
         ((alone .1 .0 .0, (alone .1 .0 .1 .0, tt)), ((alone .1 .1 .0 .0, tt), (tt, tt))),
       ) in

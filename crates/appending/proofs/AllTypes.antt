@@ -12,7 +12,7 @@ use Rattle.rules.specs.Capabilities.{kinds}
 use Rattle.rules.specs.Messages.{Request, seriesAt, requests, requestedOf}
 use Rattle.rules.specs.Calls.{capabilityRecords, kindRecords, tooMany}
 use Rattle.laws.proofs.KindFacts.{Next, next}
-use Rattle.demands.proofs.Series.{requests-storable}
+use Rattle.laws.proofs.SeriesRequests.{requests-storable}
 use Rattle.words.specs.Words.{Holds}
 use Rattle.slots.specs.Slots.{KeyOf}
 use Rattle.storing.specs.Storing.{Stored}

@@ -1,12 +1,11 @@
 -- The loop over a capability's words: those from word k on are left to store.
-use Prim.Native.Nat.{ℕ, suc, _+_, _*_, _-_, _≤_, _<_}
+use Prim.Native.Nat.{ℕ, _+_, _*_, _-_, _≤_, _<_}
 use native.Mathlib.Omega.{arith}
 use native.Mathlib.Numerals.{add-one}
 use mathlib.Core.Path.{_≡_, sym, ap, _∙_}
 use mathlib.Core.List.{List, _∷_}
 use mathlib.Core.Bool.{true}
 use lib.ListN.{length, drop}
-use lib.Seq.{drop-drop}
 use Rattle.rules.specs.Words.{Bytes, num, wordAt, words}
 use Rattle.rules.specs.Table.{Record, _holds_, put, puts, room, store, recordForm}
 use Rattle.rules.specs.KernelStorage.{wordSlot}
@@ -18,22 +17,13 @@ use Rattle.words.specs.Words.{Holds}
 use Rattle.moves.specs.Moves.{WordPart}
 use Rattle.requests.specs.Requests.{capabilityAt}
 use Rattle.requests.proofs.Types.{named-words}
+use Rattle.counting.proofs.Counting.{words-next}
 use Rattle.appending.specs.Appending.{WordsNeeds, WordsStored}
 use Rattle.slots.specs.Slots.{KeyOf}
 use Rattle.storing.specs.Storing.{Stored}
 use Rattle.appending.proofs.Left.{Left, left-all, left-none, left-ready, left-put}
 
--- the words from word k on, of those that begin at an offset
-pub words-next : (d : Bytes) (at count k : ℕ) → k < count
-    → words (count - k) (drop (at + 32 * k) d) ≡ wordAt d (at + 32 * k) ∷ words (count - (k + 1)) (drop (at + 32 * (k + 1)) d)
-unfolding words wordAt
-words-next d at count k h =
-    let one : count - k ≡ suc (count - (k + 1)) = omega arith in
-    let next : at + 32 * k + 32 ≡ at + 32 * (k + 1) = omega arith in
-    let behind : drop 32 (drop (at + 32 * k) d) ≡ drop (at + 32 * (k + 1)) d = drop-drop 32 (at + 32 * k) d ∙ ap (λ (j : ℕ). drop j d) next in
-    rw (one, behind)
-
--- and their records
+-- the records of the words from word k on, of those that begin at an offset
 abbrev wordsLeft : (p : ℕ) → Kind → (i : ℕ) → (d : Bytes) → (at k : ℕ) → List Record
 wordsLeft p kind i d at k = wordRecords p kind i k (words (wordCount kind - k) (drop (at + 32 * k) d))
 

@@ -1,4 +1,4 @@
--- The whole registration: its first records, whose values are not zero, and then those of the capabilities.
+-- The whole registration: its head records, whose values are not zero, and then those of the capabilities.
 use Prim.Native.Nat.{ℕ, suc, _+_}
 use native.Mathlib.Omega.{arith}
 use native.Mathlib.Numerals.{add-one}
@@ -11,7 +11,7 @@ use Rattle.rules.specs.Capabilities.{kinds}
 use Rattle.rules.specs.Messages.{requests}
 use Rattle.rules.specs.Calls.{kindRecords, afterRegister}
 use Rattle.storing.specs.Storing.{Stored}
-use Rattle.appending.specs.Appending.{Roomy, Takes, placeRecords, ownRecords, firstRecords, KindsNeeds, AppendNeeds}
+use Rattle.appending.specs.Appending.{Roomy, Takes, placeRecords, ownRecords, headRecords, KindsNeeds, AppendNeeds}
 use Rattle.appending.proofs.Room.{roomy-both, roomy-within, roomy-after}
 use Rattle.appending.proofs.Left.{Left, left-takes, left-after, left-whole}
 
@@ -28,14 +28,14 @@ module _ {t : Bytes} {used places : ℕ} {procedure address d : Bytes} (need : A
   abbrev ofKinds : List Record
   ofKinds = kindRecords p (requests d) kinds
 
-  roomy : Roomy (room t) (store t) (firstRecords (suc places) p a ++ ofKinds)
+  roomy : Roomy (room t) (store t) (headRecords (suc places) p a ++ ofKinds)
   roomy =
-      roomy-both (room t) (store t) (firstRecords (suc places) p a) ofKinds
-      (roomy-after (room t) (store t) (firstRecords (suc places) p a)
+      roomy-both (room t) (store t) (headRecords (suc places) p a) ofKinds
+      (roomy-after (room t) (store t) (headRecords (suc places) p a)
       (need .keyNonZero, (omega arith, (need .addressNonZero, (omega arith, tt)))) (omega (arith, need .fits)))
-      (roomy-within (room t) (puts (store t) (firstRecords (suc places) p a)) ofKinds (need .fits))
+      (roomy-within (room t) (puts (store t) (headRecords (suc places) p a)) ofKinds (need .fits))
 
-  start : Left (length t) t used (firstRecords place p a ++ ofKinds) (afterRegister (store t) p a (requests d))
+  start : Left (length t) t used (headRecords place p a ++ ofKinds) (afterRegister (store t) p a (requests d))
   unfolding afterRegister
   start =
       record {

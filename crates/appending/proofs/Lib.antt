@@ -4,6 +4,4 @@ pub mod CapabilityWords
 pub mod Requested
 pub mod AllTypes
 pub mod First
-pub mod Counting
-pub mod AnyOrder
 pub mod Added

@@ -2,23 +2,14 @@
 -- a value that is not zero takes none away, so what such stores leave is never less than what they had on the way.
 use Prim.Native.Nat.{ℕ, zero, suc, _+_, _≤_}
 use native.Mathlib.Omega.{arith}
-use mathlib.Core.Path.{_≡_, refl, ap}
 use mathlib.Core.List.{List, [], _∷_, _++_}
 use lib.ListN.{length}
-use borrow.Author.Tests.{eq-eqb, ne-eqb}
 use Rattle.rules.specs.Words.{Every}
 use Rattle.rules.specs.Table.{Store, Record, put, puts}
 use Rattle.laws.proofs.Stores.{put-length, put-zero-length, put-no-shorter}
-use Rattle.appending.specs.Appending.{takenIf, takenBy, nonZero, Roomy}
-
--- what a value takes
-pub taken-none : takenBy 0 ≡ 0
-unfolding takenBy
-taken-none = ap takenIf (eq-eqb 0 0 refl)
-
-pub taken-one : (v : ℕ) → 1 ≤ v → takenBy v ≡ 1
-unfolding takenBy
-taken-one v h = ap takenIf (ne-eqb v 0 (λ q. omega arith))
+use Rattle.counting.specs.Counting.{takenBy, nonZero}
+use Rattle.counting.proofs.OneValue.{taken-one}
+use Rattle.appending.specs.Appending.{Roomy}
 
 put-taken : (s : Store) (k v : ℕ) → length (put s k v) ≤ length s + takenBy v
 put-taken s k zero = omega (arith, put-zero-length s k)

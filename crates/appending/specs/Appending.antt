@@ -1,33 +1,20 @@
--- What the functions that store a registration ask, and the records that it can add.
+-- What the functions that store a registration ask.
 use Prim.Native.Nat.{ℕ, suc, _+_, _*_, _≤_}
 use mathlib.Core.Path.{_≡_}
 use mathlib.Core.List.{List, [], _∷_}
-use mathlib.Core.Bool.{Bool, true, false}
-use lib.Dec.{eqb}
+use mathlib.Core.Bool.{true, false}
 use lib.ListN.{length}
 use Rattle.rules.specs.Words.{Bytes, keyBytes, wordBytes, num}
 use Rattle.rules.specs.Table.{Store, Record, _holds_, put, puts, room, store, recordForm}
 use Rattle.rules.specs.KernelStorage.{addressSlot, indexSlot, lengthSlot, placeSlot}
 use Rattle.rules.specs.Capabilities.{Kind, kinds, number, wordCount}
 use Rattle.rules.specs.Procedures.{listLength}
-use Rattle.rules.specs.Messages.{Request, seriesAt, requests, requestedOf}
+use Rattle.rules.specs.Messages.{seriesAt, requests, requestedOf}
 use Rattle.rules.specs.Sound.{greatestCount}
 use Rattle.rules.specs.Calls.{greatestList, wordRecords, capabilityRecords, kindRecords, tooMany}
 use Rattle.storing.specs.Storing.{Stored}
 use Rattle.requests.specs.Requests.{WellFormedFrom, capabilityAt}
-
--- how many records a value takes, by whether it is zero: "storing zero removes a record"
-abbrev pub takenIf : (zero : Bool) → ℕ
-takenIf true = 0
-takenIf false = 1
-
-unfoldable pub takenBy : (value : ℕ) → ℕ
-takenBy v = takenIf (eqb v 0)
-
--- how many records of a list have a value that is not zero: storing the list adds no more than these
-unfoldable pub nonZero : List Record → ℕ
-nonZero [] = 0
-nonZero (r ∷ rs) = takenBy (r .value) + nonZero rs
+use Rattle.counting.specs.Counting.{nonZero}
 
 -- a table of that many records has room for the records of a list, stored one after the other
 abbrev pub Roomy : (rooms : ℕ) → Store → List Record → Type 0
@@ -47,8 +34,8 @@ placeRecords place p = placeSlot place holds p ∷ lengthSlot holds place ∷ []
 abbrev pub ownRecords : (place p a : ℕ) → List Record
 ownRecords place p a = addressSlot p holds a ∷ indexSlot p holds place ∷ []
 
-abbrev pub firstRecords : (place p a : ℕ) → List Record
-firstRecords place p a = placeSlot place holds p ∷ lengthSlot holds place ∷ ownRecords place p a
+abbrev pub headRecords : (place p a : ℕ) → List Record
+headRecords place p a = placeSlot place holds p ∷ lengthSlot holds place ∷ ownRecords place p a
 
 -- what is asked where the words of the i-th capability, of the type that n names, are stored: they begin at an offset of the data
 pub record WordsNeeds (t : Bytes) (used : ℕ) (procedure : Bytes) (n i : ℕ) (d : Bytes) (at : ℕ) : Type 0 where
@@ -83,7 +70,7 @@ pub record KindsNeeds (t : Bytes) (used : ℕ) (procedure d : Bytes) : Type 0 wh
   pub few : tooMany (requests d) ≡ false
   pub takes : Takes t used (kindRecords (num procedure) (requests d) kinds)
 
--- what is asked of a registration: the room is for the first records and for as many of the others as can be new
+-- what is asked of a registration: the room is for the head records and for as many of the others as can be new
 pub record AppendNeeds (t : Bytes) (used places : ℕ) (procedure address d : Bytes) : Type 0 where
   pub form : recordForm t ≡ true
   pub count : used ≡ length (store t)
@@ -95,28 +82,5 @@ pub record AppendNeeds (t : Bytes) (used places : ℕ) (procedure address d : By
   pub addressNonZero : 1 ≤ num address
   pub wellFormed : WellFormedFrom d seriesAt
   pub few : tooMany (requests d) ≡ false
-  pub fits : length (puts (store t) (firstRecords (suc places) (num procedure) (num address)))
+  pub fits : length (puts (store t) (headRecords (suc places) (num procedure) (num address)))
       + nonZero (kindRecords (num procedure) (requests d) kinds) ≤ room t
-
--- Those of the capabilities, counted in another order: the words of the requests that are not zero, and the types that are requested.
-unfoldable pub wordsTaken : List ℕ → ℕ
-wordsTaken [] = 0
-wordsTaken (w ∷ ws) = takenBy w + wordsTaken ws
-
-unfoldable pub requestsTaken : List Request → ℕ
-requestsTaken [] = 0
-requestsTaken (r ∷ rs) = wordsTaken (r .capability) + requestsTaken rs
-
-unfoldable pub kindsTaken : List Request → List Kind → ℕ
-kindsTaken rs [] = 0
-kindsTaken rs (kind ∷ more) = takenBy (length (requestedOf kind rs)) + kindsTaken rs more
-
--- r counts words that are not zero, n of them at most
-pub record WordsTaken (n : ℕ) (ws : List ℕ) (r : ℕ) : Type 0 where
-  pub is : r ≡ wordsTaken ws
-  pub small : r ≤ n
-
--- r counts the records that are not zero, whichever procedure the capabilities are requested for
-pub record Needed (d : Bytes) (r : ℕ) : Type 0 where
-  pub is : (p : ℕ) → r ≡ nonZero (kindRecords p (requests d) kinds)
-  pub small : r ≤ length d + 5

@@ -1,17 +1,14 @@
 // The stores of Register: the key is appended to the list, and the new procedure's address, index, counts and capabilities are stored.
 use rules::Kind;
 ghost use mathlib.Core.Path.{_≡_};
-ghost use Prim.Native.Nat.{_+_, _*_, _≤_};
-ghost use lib.ListN.{length, drop};
-ghost use Rattle.rules.specs.Words.{keyBytes, wordBytes, num, words};
+ghost use lib.ListN.{length};
+ghost use Rattle.rules.specs.Words.{keyBytes, wordBytes, num};
 ghost use Rattle.rules.specs.Table.{puts, store};
 ghost use Rattle.rules.specs.Capabilities.{kinds};
-ghost use Rattle.rules.specs.Messages.{seriesAt, requests};
+ghost use Rattle.rules.specs.Messages.{requests};
 ghost use Rattle.rules.specs.Calls.{kindRecords, afterRegister};
-ghost use Rattle.requests.specs.Requests.{WellFormedFrom};
 ghost use Rattle.storing.specs.Storing.{Stored};
 ghost use Rattle.appending.specs.Appending.{Takes, placeRecords, ownRecords, WordsNeeds, WordsStored, KindNeeds, KindStored, KindsNeeds, AppendNeeds};
-ghost use Rattle.appending.specs.Appending.{takenIf, requestsTaken, kindsTaken, WordsTaken, Needed};
 
 // The key at its place of the list, and the list's length.
 fn put_place(t: &mut [u8], used: usize, place: usize, procedure: &[u8]) -> usize
@@ -120,65 +117,4 @@ pub fn append(
     let listed = put_place(t, used, place, procedure);
     let named = put_own(t, listed, place, procedure, address);
     put_kinds(t, named, procedure, d)
-}
-
-// How many records a value takes.
-fn taken(zero: bool) -> usize
-    ensures { λ r. ⌜ (r ≡ takenIf zero) × (r ≤ 1) ⌝ }
-{
-    if zero { 0 } else { 1 }
-}
-
-// How many of the words that begin at an offset of the data are not zero.
-fn words_taken(d: &[u8], at: usize, count: usize) -> usize
-    requires { ⌜ at + wordBytes * count ≤ length (now d) ⌝ }
-    ensures { λ r. ⌜ WordsTaken count (words count (drop at (now (d .entry)))) r ⌝ }
-{
-    let mut total = 0;
-    let mut k = 0;
-    while k < count {
-        let word_at = at + rules::WORD_BYTES * k;
-        total += taken(words::is_zero(moves::word_at(d, word_at)));
-        k += 1;
-    }
-    total
-}
-
-// How many words of the requested capabilities are not zero.
-fn requests_taken(d: &[u8]) -> usize
-    requires { ⌜ WellFormedFrom (now d) seriesAt ⌝ }
-    ensures { λ r. ⌜ (r ≡ requestsTaken (requests (now (d .entry)))) × (r ≤ length (now (d .entry))) ⌝ }
-{
-    let mut total = 0;
-    let mut at = rules::SERIES_AT;
-    while at < d.len() {
-        let request = series::request_at(d, at);
-        let kind = request.kind;
-        total += words_taken(d, request.words_at, kind.words());
-        at = request.next;
-    }
-    total
-}
-
-// How many types have a capability requested.
-fn kinds_taken(d: &[u8]) -> usize
-    requires { ⌜ WellFormedFrom (now d) seriesAt ⌝ }
-    ensures { λ r. ⌜ (r ≡ kindsTaken (requests (now (d .entry))) kinds) × (r ≤ 5) ⌝ }
-{
-    let counts = series::requested(d);
-    let mut total = 0;
-    let mut number = Kind::CALL.0 as usize;
-    while number < rules::TYPES {
-        total += taken(counts[number] == 0);
-        number += 1;
-    }
-    total
-}
-
-// How many records the requested capabilities need, each of which has a slot of its own.
-pub fn records_needed(d: &[u8]) -> usize
-    requires { ⌜ WellFormedFrom (now d) seriesAt ⌝ }
-    ensures { λ r. ⌜ Needed (now (d .entry)) r ⌝ }
-{
-    kinds_taken(d) + requests_taken(d)
 }

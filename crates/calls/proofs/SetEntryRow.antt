@@ -1,5 +1,5 @@
 -- Set Entry's row: each return of the code is a place in it.
-use mathlib.Core.Path.{_≡_, refl, sym, ap, _∙_}
+use mathlib.Core.Path.{_≡_, refl, ap}
 use mathlib.Core.Bool.{Bool, true, false, not}
 use lib.ListN.{length}
 use Rattle.rules.specs.Words.{Bytes, keyBytes, num}
@@ -14,6 +14,7 @@ use Rattle.rules.specs.Source.{OfType, refusedReply, replyOf}
 use Rattle.rules.specs.declared.Reply.{Reply}
 use Rattle.words.specs.Words.{Holds}
 use Rattle.results.specs.Results.{Gives}
+use Rattle.acting.proofs.Permission.{listed-judged}
 use Rattle.results.proofs.Rows.{refusal, changes, refuses, passes, ends, denied}
 
 module _ (t d : Bytes) {p : Bool} (e : OfType (number setEntry) (λ k. p ≡ not (indexOutOfRange (store t) d k))) where
@@ -22,14 +23,11 @@ module _ (t d : Bytes) {p : Bool} (e : OfType (number setEntry) (λ k. p ≡ not
   set-entry-not-covered q f = rw (refuses (denied (e setEntry refl) q)) (refusal t x33 f)
 
   module _ (q : p ≡ true) {key : Bytes} (k : Holds keyBytes key (keyWord d)) {l : Bool} (g : l ≡ listed (store t) (num key)) where
-    is-listed : {b : Bool} → l ≡ b → not (listed (store t) (keyWord d)) ≡ not b
-    is-listed z = ap not (ap (listed (store t)) (sym (k .number)) ∙ sym g ∙ z)
-
     pub set-entry-not-listed : l ≡ false → {r : Reply} → r ≡ refusedReply (codeNumber x6633) → Gives (outcome t (doSetEntry (store t) d)) r t
     unfolding doSetEntry
-    set-entry-not-listed z f = rw (passes (denied (e setEntry refl) q), refuses (is-listed z)) (refusal t x6633 f)
+    set-entry-not-listed z f = rw (passes (denied (e setEntry refl) q), refuses (ap not (listed-judged t k g z))) (refusal t x6633 f)
 
     pub set-entry-done : l ≡ true → {t′ : Bytes} → t′ ≡ bytes (length t) (put (store t) entrySlot (keyWord d))
         → {r : Reply} → r ≡ replyOf done → Gives (outcome t (doSetEntry (store t) d)) r t′
     unfolding doSetEntry
-    set-entry-done z h f = rw (passes (denied (e setEntry refl) q), passes (is-listed z), ends) (changes t _ _ f h)
+    set-entry-done z h f = rw (passes (denied (e setEntry refl) q), passes (ap not (listed-judged t k g z)), ends) (changes t _ _ f h)

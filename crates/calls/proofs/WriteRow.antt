@@ -1,20 +1,22 @@
 -- Write's row: each return of the code is a place in it.
-use Prim.Native.Nat.{ℕ, _/_, _≤_, _<_}
+use Prim.Native.Nat.{ℕ, _*_, _/_, _≤_, _<_}
+use native.Mathlib.Omega.{arith}
 use mathlib.Core.Path.{_≡_, sym, ap, _∙_}
-use mathlib.Core.Bool.{Bool, true, false, not, _&&_}
+use mathlib.Core.Bool.{Bool, true, false}
 use lib.ListN.{length}
 use borrow.Author.Tests.{lt-ltb, le-ltb}
 use Rattle.rules.specs.Words.{Bytes, wordBytes, num}
-use Rattle.rules.specs.Table.{put, bytes, room, store}
+use Rattle.rules.specs.Table.{recordSize, put, bytes, room, store}
 use Rattle.rules.specs.KernelStorage.{inKernelStorage}
 use Rattle.rules.specs.Capabilities.{write, number}
 use Rattle.rules.specs.Messages.{writeAddress, writeValue}
 use Rattle.rules.specs.Answers.{x33, e7, codeNumber, done, outcome}
-use Rattle.rules.specs.Calls.{indexOutOfRange, notCovering, noRoom, doWrite}
-use Rattle.rules.specs.Source.{OfType, refusedReply, replyOf}
+use Rattle.rules.specs.Calls.{noRoom, doWrite}
+use Rattle.rules.specs.Source.{refusedReply, replyOf}
 use Rattle.rules.specs.declared.Reply.{Reply}
 use Rattle.words.specs.Words.{Holds}
 use Rattle.results.specs.Results.{Gives}
+use Rattle.acting.specs.Acting.{Permits}
 use Rattle.acting.proofs.Permission.{not-permitted, permitted}
 use Rattle.results.proofs.Rows.{refusal, changes, refuses, passes, ends}
 
@@ -24,20 +26,19 @@ module _ (t d : Bytes) {x v : Bytes} (a : Holds wordBytes x (writeAddress d)) (b
   needs-room : n ≡ length (put (store t) (writeAddress d) (writeValue d))
   needs-room = rw (a .number, b .number) at c
 
-  pub write-fits : n ≤ length t / 64 → length (put (store t) (writeAddress d) (writeValue d)) ≤ room t
-  unfolding room
-  write-fits l = rw (← needs-room) l
+  pub write-fits : n ≤ length t / recordSize → recordSize * length (put (store t) (writeAddress d) (writeValue d)) ≤ length t
+  write-fits l = omega (arith, needs-room, l)
 
-  has-room : n ≤ length t / 64 → noRoom (room t) (put (store t) (writeAddress d) (writeValue d)) ≡ false
-  unfolding noRoom
-  has-room l = le-ltb (room t) (length (put (store t) (writeAddress d) (writeValue d))) (write-fits l)
-
-  full : length t / 64 < n → noRoom (room t) (put (store t) (writeAddress d) (writeValue d)) ≡ true
+  has-room : n ≤ length t / recordSize → noRoom (room t) (put (store t) (writeAddress d) (writeValue d)) ≡ false
   unfolding noRoom room
-  full l = lt-ltb (length t / 64) (length (put (store t) (writeAddress d) (writeValue d))) (rw (← needs-room) l)
+  has-room l = le-ltb (room t) (length (put (store t) (writeAddress d) (writeValue d))) (rw (← needs-room) l)
+
+  full : length t / recordSize < n → noRoom (room t) (put (store t) (writeAddress d) (writeValue d)) ≡ true
+  unfolding noRoom room
+  full l = lt-ltb (length t / recordSize) (length (put (store t) (writeAddress d) (writeValue d))) (rw (← needs-room) l)
 
 module _ (t d : Bytes) {x v : Bytes} (a : Holds wordBytes x (writeAddress d)) (b : Holds wordBytes v (writeValue d)) {p : Bool}
-    (e : OfType (number write) (λ k. p ≡ (not (indexOutOfRange (store t) d k) && not (notCovering (store t) d k (num x))))) where
+    (e : Permits t d (number write) (num x) p) where
   pub write-not-covered : p ≡ false → {r : Reply} → r ≡ refusedReply (codeNumber x33) → Gives (outcome t (doWrite (room t) (store t) d)) r t
   unfolding doWrite
   write-not-covered q f = rw (not-permitted t d write (writeAddress d) a e q) (refusal t x33 f)
@@ -51,11 +52,11 @@ module _ (t d : Bytes) {x v : Bytes} (a : Holds wordBytes x (writeAddress d)) (b
     write-into-kernel h f = rw (permitted t d write (writeAddress d) a e q, refuses (inside h)) (refusal t x33 f)
 
     module _ (h : i ≡ false) {n : ℕ} (c : n ≡ length (put (store t) (num x) (num v))) where
-      pub write-no-room : length t / 64 < n → {r : Reply} → r ≡ refusedReply (codeNumber e7) → Gives (outcome t (doWrite (room t) (store t) d)) r t
+      pub write-no-room : length t / recordSize < n → {r : Reply} → r ≡ refusedReply (codeNumber e7) → Gives (outcome t (doWrite (room t) (store t) d)) r t
       unfolding doWrite
       write-no-room l f = rw (permitted t d write (writeAddress d) a e q, passes (inside h), refuses (full t d a b c l)) (refusal t e7 f)
 
-      pub write-done : n ≤ length t / 64 → {t′ : Bytes} → t′ ≡ bytes (length t) (put (store t) (writeAddress d) (writeValue d))
+      pub write-done : n ≤ length t / recordSize → {t′ : Bytes} → t′ ≡ bytes (length t) (put (store t) (writeAddress d) (writeValue d))
           → {r : Reply} → r ≡ replyOf done → Gives (outcome t (doWrite (room t) (store t) d)) r t′
       unfolding doWrite
       write-done l k f =

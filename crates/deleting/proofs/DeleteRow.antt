@@ -1,7 +1,7 @@
 -- Delete's row: each return of the code is a place in it.
 use Prim.Native.Nat.{ℕ}
 use mathlib.Core.Path.{_≡_, sym, ap, _∙_}
-use mathlib.Core.Bool.{Bool, true, false, not, _&&_}
+use mathlib.Core.Bool.{Bool, true, false, not}
 use lib.Dec.{eqb}
 use lib.ListN.{length}
 use Rattle.rules.specs.Words.{Bytes, wordBytes, keyBytes, num}
@@ -10,17 +10,18 @@ use Rattle.rules.specs.Capabilities.{delete, number}
 use Rattle.rules.specs.Procedures.{current, entryKey, listed}
 use Rattle.rules.specs.Messages.{keyWord}
 use Rattle.rules.specs.Answers.{x33, e2, x6633, e3, codeNumber, done, outcome}
-use Rattle.rules.specs.Calls.{indexOutOfRange, notCovering, afterDelete, doDelete}
-use Rattle.rules.specs.Source.{OfType, refusedReply, replyOf}
+use Rattle.rules.specs.Calls.{afterDelete, doDelete}
+use Rattle.rules.specs.Source.{refusedReply, replyOf}
 use Rattle.rules.specs.declared.Reply.{Reply}
 use Rattle.words.specs.Words.{Holds}
 use Rattle.storing.specs.Storing.{Stored}
 use Rattle.results.specs.Results.{Gives}
-use Rattle.acting.proofs.Permission.{not-permitted, permitted}
+use Rattle.acting.specs.Acting.{Permits}
+use Rattle.acting.proofs.Permission.{listed-judged, not-permitted, permitted}
 use Rattle.results.proofs.Rows.{refusal, changes, refuses, passes, ends}
 
 module _ (t d : Bytes) {x : Bytes} (named : Holds wordBytes x (keyWord d)) {p : Bool}
-    (e : OfType (number delete) (λ k. p ≡ (not (indexOutOfRange (store t) d k) && not (notCovering (store t) d k (num x))))) where
+    (e : Permits t d (number delete) (num x) p) where
   pub delete-not-covered : p ≡ false → {r : Reply} → r ≡ refusedReply (codeNumber x33) → Gives (outcome t (doDelete (store t) d)) r t
   unfolding doDelete
   delete-not-covered q f = rw (not-permitted t d delete (keyWord d) named e q) (refusal t x33 f)
@@ -31,22 +32,19 @@ module _ (t d : Bytes) {x : Bytes} (named : Holds wordBytes x (keyWord d)) {p : 
     delete-entry z f = rw (permitted t d delete (keyWord d) named e q, refuses (sym g ∙ z)) (refusal t e2 f)
 
     module _ (z : i ≡ false) {key : Bytes} (k : Holds keyBytes key (keyWord d)) {l : Bool} (h : l ≡ listed (store t) (num key)) where
-      is-listed : {b : Bool} → l ≡ b → not (listed (store t) (keyWord d)) ≡ not b
-      is-listed y = ap not (ap (listed (store t)) (sym (k .number)) ∙ sym h ∙ y)
-
       pub delete-not-listed : l ≡ false → {r : Reply} → r ≡ refusedReply (codeNumber x6633) → Gives (outcome t (doDelete (store t) d)) r t
       unfolding doDelete
-      delete-not-listed y f = rw (permitted t d delete (keyWord d) named e q, passes (sym g ∙ z), refuses (is-listed y)) (refusal t x6633 f)
+      delete-not-listed y f = rw (permitted t d delete (keyWord d) named e q, passes (sym g ∙ z), refuses (ap not (listed-judged t k h y))) (refusal t x6633 f)
 
       module _ (y : l ≡ true) {c : Bool} (m : c ≡ eqb (keyWord d) (current (store t))) where
         pub delete-current : c ≡ true → {r : Reply} → r ≡ refusedReply (codeNumber e3) → Gives (outcome t (doDelete (store t) d)) r t
         unfolding doDelete
         delete-current w f =
-            rw (permitted t d delete (keyWord d) named e q, passes (sym g ∙ z), passes (is-listed y), refuses (sym m ∙ w)) (refusal t e3 f)
+            rw (permitted t d delete (keyWord d) named e q, passes (sym g ∙ z), passes (ap not (listed-judged t k h y)), refuses (sym m ∙ w)) (refusal t e3 f)
 
         pub delete-done : c ≡ false → {t′ : Bytes} {used′ : ℕ} → Stored (length t) t′ used′ (afterDelete (store t) (num key))
             → {r : Reply} → r ≡ replyOf done → Gives (outcome t (doDelete (store t) d)) r t′
         unfolding doDelete
         delete-done w s f =
-            rw (permitted t d delete (keyWord d) named e q, passes (sym g ∙ z), passes (is-listed y), passes (sym m ∙ w), ends)
+            rw (permitted t d delete (keyWord d) named e q, passes (sym g ∙ z), passes (ap not (listed-judged t k h y)), passes (sym m ∙ w), ends)
             (changes t _ _ f (rw (k .number) at (s .table)))

@@ -32,9 +32,9 @@ use Rattle.demands.proofs.Frame.{framed-same}
 use Rattle.demands.proofs.OneSlot.{current-in, entry-in, turn-keeps, setEntry-keeps, kernel-apart, write-keeps}
 use Rattle.demands.proofs.Deletion.{Deletion}
 use Rattle.demands.proofs.Delete.{delete-keeps, delete-same, delete-outside}
-use Rattle.demands.proofs.RegisterRecords.{Registration}
+use Rattle.laws.proofs.RegisterRecords.{Registration}
 use Rattle.demands.proofs.Register.{register-keeps, register-same, registered-held, registered-outside}
-use Rattle.demands.proofs.Series.{requested-every, requests-each, requests-storable}
+use Rattle.laws.proofs.SeriesRequests.{requested-every, requests-each, requests-storable}
 use Rattle.demands.proofs.SizedStores.{IsWord, put-sized, kernel-word, key-word, afterDelete-sized, afterRegister-sized}
 use Rattle.demands.proofs.Step.{Step, Quiet, change-step, quiet-effect, answer-step, refuse-step, row-step}
 

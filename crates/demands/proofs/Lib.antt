@@ -3,9 +3,7 @@ pub mod OneSlot
 pub mod Removed
 pub mod Deletion
 pub mod Delete
-pub mod RegisterRecords
 pub mod Register
-pub mod Series
 pub mod SizedStores
 pub mod SetUp
 pub mod Step

@@ -1,10 +1,10 @@
 -- Register keeps a store sound, and the new procedure holds what was requested. The records that it stores have different keys,
 -- so each is read again as it was stored; they are the new procedure's, its place and the length, and every other slot is kept.
-use Prim.Native.Nat.{ℕ, suc, _+_, _-_, _^_, _≤_, _<_}
+use Prim.Native.Nat.{ℕ, suc, _^_, _≤_, _<_}
 use native.Mathlib.Omega.{arith}
 use mathlib.Core.Path.{_≡_, sym, ap, _∙_}
 use mathlib.Core.Logic.{_≢_, _⊎_, inl, inr}
-use mathlib.Core.List.{List, _∷_}
+use mathlib.Core.List.{List}
 use mathlib.Core.Bool.{true, false, true≢false}
 use lib.ListN.{length}
 use Rattle.rules.specs.Words.{Every}
@@ -14,18 +14,19 @@ use Rattle.rules.specs.Capabilities.{Kind, kinds, prefixInRange}
 use Rattle.rules.specs.Procedures.{listLength, keyAt, addressOf, indexOf, kernelAddress, current, entryKey, held, InList, Listed}
 use Rattle.rules.specs.Sound.{IsAddress, Belongs, address, index, listLengthHere, place, Sound}
 use Rattle.rules.specs.Messages.{Request, requestedOf}
-use Rattle.rules.specs.Calls.{kindRecords, afterRegister}
+use Rattle.rules.specs.Calls.{afterRegister}
 use Rattle.rules.specs.Demands.{Kept}
 use Rattle.laws.proofs.Numbers.{same-or-not}
 use Rattle.laws.proofs.Lists.{every-map, _also_}
 use Rattle.laws.proofs.Stores.{puts-ascending, Misses, get-puts-other, hit-or-miss}
 use Rattle.laws.proofs.Rows.{member}
-use Rattle.laws.proofs.Records.{Stored, Apart, puts-stored, Rising, rising-misses, rising-apart}
-use Rattle.laws.proofs.Slots.{Fits, slot-region, slot-middle, slot-inKernelStorage, regions-apart, fixed, inProcedure, one-end}
-use Rattle.laws.proofs.KindFacts.{kinds-climb, in-kinds}
+use Rattle.laws.proofs.Records.{Stored, puts-stored}
+use Rattle.laws.proofs.Slots.{Fits, slot-region, slot-middle, slot-inKernelStorage, fixed, inProcedure, one-end}
+use Rattle.laws.proofs.KindFacts.{in-kinds}
 use Rattle.laws.proofs.Places.{PlaceSound, carried, soundFrom, same-from, listed-fits, place-fits, belongs-carried}
 use Rattle.laws.proofs.Procedures.{Good, held-each}
-use Rattle.demands.proofs.RegisterRecords.{Proper, Registration, slot-after, kinds-rise, Requested, kinds-read, kinds-belong}
+use Rattle.laws.proofs.RegisterRecords.{Proper, Registration, Requested, kinds-read, kinds-belong}
+use Rattle.laws.proofs.NewRecords.{newRecords, new-fits, length-fits, own-fits, own-misses, apart}
 
 module _ {s : Store} {p a : ℕ} {rs : List Request} (new : Registration s p a rs) where
   abbrev N : ℕ
@@ -34,49 +35,13 @@ module _ {s : Store} {p a : ℕ} {rs : List Request} (new : Registration s p a r
   abbrev s′ : Store
   s′ = afterRegister s p a rs
 
-  -- the records of the new procedure, and all that are stored
-  abbrev own : List Record
-  own = addressSlot p holds a ∷ indexSlot p holds suc N ∷ kindRecords p rs kinds
-
+  -- what is stored
   abbrev records : List Record
-  records = placeSlot (suc N) holds p ∷ lengthSlot holds suc N ∷ own
-
-  -- Which slots are stored. Those of the procedure rise.
-  new-fits : Fits 1 (suc N) 0
-  new-fits = place-fits (suc N) (omega arith)
-
-  length-fits : Fits 1 0 0
-  length-fits = fixed 1 (omega arith)
-
-  own-fits : (e : ℕ) → e < 2 ^ 24 → Fits 0 p e
-  own-fits = inProcedure p (new .isKey .fits)
-
-  pub own-rises : Rising (addressSlot p) (addressSlot p + 2 ^ 24) own
-  unfolding indexSlot ending
-  own-rises =
-      let second = slot-after p 1 in
-      omega arith
-      also omega arith
-      also kinds-rise p rs (new .storable) (suc (slot 0 p 1)) 3 kinds kinds-climb (omega arith) (omega arith)
-
-  own-misses : (k : ℕ) → ((e : ℕ) → e < 2 ^ 24 → k ≡ slot 0 p e → ⊥) → Misses k own
-  own-misses k other =
-      rising-misses (addressSlot p) (addressSlot p + 2 ^ 24) own own-rises k
-      (λ from below. other (k - addressSlot p) (omega arith) (let z = slot-after p (k - addressSlot p) in omega arith))
-
-  pub apart : Apart records
-  unfolding placeSlot lengthSlot
-  apart = (
-    (λ q. let z = slot-middle new-fits length-fits q in omega arith, list-misses new-fits),
-    (list-misses length-fits, rising-apart _ _ own own-rises),
-  )
-    where
-      list-misses : {m e : ℕ} → Fits 1 m e → Misses (slot 1 m e) own
-      list-misses f = own-misses _ (λ e h. regions-apart f (own-fits e h) (λ z. omega arith))
+  records = newRecords (suc N) p a rs
 
   stored : Stored s′ records
   unfolding afterRegister
-  stored = puts-stored s records (new .ascending) apart
+  stored = puts-stored s records (new .ascending) (apart new)
 
   -- Every other slot is kept.
   other-kept : (k : ℕ) → Misses k records → get s′ k ≡ get s k
@@ -87,15 +52,15 @@ module _ {s : Store} {p a : ℕ} {rs : List Request} (new : Registration s p a r
   unfolding placeSlot lengthSlot
   slot-kept {r} {m} {e} f notOwn inList =
       other-kept (slot r m e) (
-        not-in-list new-fits (λ i z. omega arith),
-        (not-in-list length-fits (λ i z. omega arith), own-misses (slot r m e) not-own),
+        not-in-list (new-fits new) (λ i z. omega arith),
+        (not-in-list (length-fits new) (λ i z. omega arith), own-misses new (slot r m e) not-own),
       )
     where
       not-in-list : {n e′ : ℕ} → Fits 1 n e′ → (InList s m → m ≡ n → ⊥) → slot r m e ≡ slot 1 n e′ → ⊥
       not-in-list f′ beyond q = beyond (inList (slot-region f f′ q)) (slot-middle f f′ q)
 
       not-own : (e′ : ℕ) → e′ < 2 ^ 24 → slot r m e ≡ slot 0 p e′ → ⊥
-      not-own e′ h q = notOwn (slot-region f (own-fits e′ h) q) (slot-middle f (own-fits e′ h) q)
+      not-own e′ h q = notOwn (slot-region f (own-fits new e′ h) q) (slot-middle f (own-fits new e′ h) q)
 
   place-kept : (n : ℕ) → InList s n → keyAt s′ n ≡ keyAt s n
   unfolding keyAt placeSlot
@@ -122,7 +87,7 @@ module _ {s : Store} {p a : ℕ} {rs : List Request} (new : Registration s p a r
   pub registered-outside : (k : ℕ) → inKernelStorage k ≡ false → get s′ k ≡ get s k
   unfolding placeSlot lengthSlot
   registered-outside k outside =
-      other-kept k (no-slot new-fits, (no-slot length-fits, own-misses k (λ e h. no-slot (own-fits e h))))
+      other-kept k (no-slot (new-fits new), (no-slot (length-fits new), own-misses new k (λ e h. no-slot (own-fits new e h))))
     where
       no-slot : {r m e : ℕ} → Fits r m e → k ≡ slot r m e → ⊥
       no-slot f q = true≢false (sym (slot-inKernelStorage f) ∙ sym (ap inKernelStorage q) ∙ outside)

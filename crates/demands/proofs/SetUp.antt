@@ -21,7 +21,7 @@ use Rattle.laws.proofs.Rows.{member}
 use Rattle.laws.proofs.Records.{Stored, puts-stored, Rising, rising-misses, rising-apart}
 use Rattle.laws.proofs.Slots.{fixed}
 use Rattle.laws.proofs.Places.{Body}
-use Rattle.demands.proofs.RegisterRecords.{Proper, Storable, Registration}
+use Rattle.laws.proofs.RegisterRecords.{Proper, Storable, Registration}
 use Rattle.demands.proofs.Register.{registered-ascends, register-sound, registered-own}
 use Rattle.demands.proofs.SizedStores.{puts-sized, key-word, address-word, slot-word, current-slot-word, entry-slot-word, afterRegister-sized, OfWords}
 

@@ -22,7 +22,7 @@ use Rattle.laws.proofs.KindFacts.{number-small, wordCount-small}
 use Rattle.laws.proofs.Places.{place-fits}
 use Rattle.laws.proofs.Procedures.{list-within}
 use Rattle.demands.proofs.Deletion.{Deletion, freed-in, last-in}
-use Rattle.demands.proofs.RegisterRecords.{Proper, Storable, Registration}
+use Rattle.laws.proofs.RegisterRecords.{Proper, Storable, Registration}
 
 abbrev pub IsWord : ℕ → Type 0
 IsWord x = x < 2 ^ 256

@@ -1,6 +1,8 @@
 // The record table read: where a key stands.
 ghost use mathlib.Core.Path.{_≡_};
 ghost use mathlib.Core.Bool.{true};
+ghost use Prim.Native.Nat.{_≤_};
+ghost use lib.Dec.{ltb};
 ghost use lib.ListN.{length};
 ghost use Rattle.rules.specs.Words.{wordBytes, num};
 ghost use Rattle.rules.specs.Table.{store, recordForm};
@@ -47,5 +49,41 @@ pub fn find(t: &[u8], used: usize, key: &[u8]) -> Place
         Place::Has(i)
     } else {
         Place::Gap(i)
+    }
+}
+
+// Whether a key's place lies before i: the record before i decides.
+fn stands_before(t: &[u8], used: usize, i: usize, key: &[u8]) -> bool
+    requires { ⌜ recordForm (now t) ≡ true ⌝ }
+    requires { ⌜ (used ≡ length (store (now t))) × (i ≤ used) ⌝ }
+    requires { ⌜ length (now key) ≡ wordBytes ⌝ }
+    ensures { λ r. ⌜ r ≡ ltb (keysBelow (store (now (t .entry))) (num (now (key .entry)))) i ⌝ }
+{
+    if i == 0 {
+        return false;
+    }
+    words::at_most(key, moves::word_at(t, rules::RECORD_SIZE * (i - 1)))
+}
+
+// The same as `find`, whatever the guess. A guess that is the key's place spares the search.
+pub fn find_near(t: &[u8], used: usize, guess: usize, key: &[u8]) -> Place
+    requires { ⌜ recordForm (now t) ≡ true ⌝ }
+    requires { ⌜ used ≡ length (store (now t)) ⌝ }
+    requires { ⌜ length (now key) ≡ wordBytes ⌝ }
+    ensures { λ r. ⌜ r ≡ placeOf (store (now (t .entry))) (num (now (key .entry))) ⌝ }
+{
+    if used < guess {
+        return find(t, used, key);
+    }
+    if stands_before(t, used, guess, key) {
+        return find(t, used, key);
+    }
+    if guess == used {
+        return Place::Gap(guess);
+    }
+    match words::compare(moves::word_at(t, rules::RECORD_SIZE * guess), key) {
+        words::Order::Less => find(t, used, key),
+        words::Order::Equal => Place::Has(guess),
+        words::Order::Greater => Place::Gap(guess),
     }
 }

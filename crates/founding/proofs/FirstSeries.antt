@@ -5,14 +5,14 @@ use Rattle.rules.specs.Messages.{requests, seriesAt}
 use Rattle.rules.specs.Calls.{tooMany, firstCapabilities}
 use Rattle.rules.proofs.Computing.{computing}
 use Rattle.requests.specs.Requests.{WellFormedFrom}
-use Rattle.founding.specs.Founding.{firstSeries, wordsOf}
+use Rattle.founding.specs.Founding.{firstSeries}
 
 pub first-requests : requests firstSeries ≡ firstCapabilities
-unfolding computing firstSeries wordsOf
+unfolding computing firstSeries
 first-requests = refl
 
 pub first-well-formed : WellFormedFrom firstSeries seriesAt
-unfolding computing firstSeries wordsOf
+unfolding computing firstSeries
 first-well-formed = refl
 
 pub first-few : tooMany firstCapabilities ≡ false

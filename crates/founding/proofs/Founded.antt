@@ -7,7 +7,7 @@ use lib.Dec.{eqb, leb}
 use lib.ListN.{length, replicate, length-replicate}
 use borrow.Author.Tests.{eqb-true, leb-true}
 use Rattle.rules.specs.Words.{Bytes, num}
-use Rattle.rules.specs.Table.{Store, recordBytes, bytes, put, puts, room, store, lengthFits, recordForm}
+use Rattle.rules.specs.Table.{recordSize, greatestTable, Store, recordBytes, bytes, put, puts, room, store, lengthFits, recordForm}
 use Rattle.rules.specs.KernelStorage.{placeSlot, lengthSlot, addressSlot, indexSlot}
 use Rattle.rules.specs.Capabilities.{kinds, number}
 use Rattle.rules.specs.Procedures.{listLength}
@@ -21,25 +21,26 @@ use Rattle.laws.proofs.TableRecords.{bytes-formed}
 use Rattle.words.specs.Words.{Holds}
 use Rattle.storing.specs.Storing.{Stored}
 use Rattle.storing.proofs.Chain.{counted}
-use Rattle.appending.specs.Appending.{takenBy, nonZero, firstRecords, AppendNeeds}
-use Rattle.founding.specs.Founding.{firstSeries, Empty, Lent}
+use Rattle.counting.specs.Counting.{takenBy, nonZero}
+use Rattle.appending.specs.Appending.{headRecords, AppendNeeds}
+use Rattle.founding.specs.Founding.{firstSeries, Empty, SetUpLent}
 use Rattle.founding.proofs.FirstSeries.{first-requests, first-well-formed, first-few}
 
 -- a table that was cleared
-module _ {t key address kernelAddress : Bytes} (l : Lent t key address kernelAddress) where
-  cleared-is : replicate (length t) 0 ≡ bytes (64 * room t) []
+module _ {t key address kernelAddress : Bytes} (l : SetUpLent t key address kernelAddress) where
+  cleared-is : replicate (length t) 0 ≡ bytes (recordSize * room t) []
   unfolding bytes recordBytes lengthFits room
   cleared-is =
       let test = l .fits in
-      let whole = eqb-true (length t % 64) 0 (and-left _ _ test) in
-      let all : length t ≡ 64 * (length t / 64) - 64 * 0 = omega (arith, whole) in
+      let whole = eqb-true (length t % recordSize) 0 (and-left _ _ test) in
+      let all : length t ≡ recordSize * (length t / recordSize) - recordSize * 0 = omega (arith, whole) in
       ap (λ (n : ℕ). replicate {A = ℕ} n 0) all
 
   pub cleared : {t₀ : Bytes} → t₀ ≡ replicate (length t) 0 → Empty t₀
   unfolding lengthFits room
   cleared {t₀} e =
       let test = l .fits in
-      let few = leb-true (length t) 65536 (and-right (eqb (length t % 64) 0) (leb (length t) 65536) test) in
+      let few = leb-true (length t) greatestTable (and-right (eqb (length t % recordSize) 0) (leb (length t) greatestTable) test) in
       let size : length t₀ ≡ length t = ap length e ∙ length-replicate (length t) 0 in
       record {
         form = ap recordForm (e ∙ cleared-is) ∙ bytes-formed (room t) [] tt tt (omega arith) (omega (arith, few));
@@ -66,7 +67,7 @@ module _ {t key address kernelAddress : Bytes} (l : Lent t key address kernelAdd
     its-requests : requests d ≡ firstCapabilities
     its-requests = ap requests s ∙ first-requests
 
-    seven : length (puts base (firstRecords 1 (num key) (num address))) ≤ 7
+    seven : length (puts base (headRecords 1 (num key) (num address))) ≤ 7
     unfolding puts
     seven =
         let three = fixed-three (num key) (num address) (num kernelAddress) (l .keyIs) (l .addressIs) (l .kernelIs) in

@@ -1,27 +1,28 @@
 -- What the functions that make the first table ask, and the data of a Register that requests the first procedure's capabilities.
-use Prim.Native.Nat.{ℕ, _-_, _^_, _≤_}
+use Prim.Native.Nat.{ℕ, _≤_}
 use mathlib.Core.Path.{_≡_}
 use mathlib.Core.List.{List, [], _∷_, _++_}
 use mathlib.Core.Bool.{true}
 use lib.ListN.{length, replicate}
-use Rattle.rules.specs.Words.{Bytes, keyBytes, addressBytes, num, word}
+use Rattle.rules.specs.Words.{Bytes, keyBytes, addressBytes, num}
 use Rattle.rules.specs.Table.{store, lengthFits, recordForm}
 use Rattle.rules.specs.Sound.{IsKey, IsAddress}
-use Rattle.rules.specs.Messages.{seriesAt}
+use Rattle.rules.specs.Messages.{Request, seriesAt}
+use Rattle.rules.specs.Calls.{firstCapabilities}
+use Rattle.rules.specs.Examples.{wordsInBytes, requested}
 
 -- "Set-up needs 13 records (832 bytes)"
 abbrev pub firstRoom : ℕ
 firstRoom = 832
 
-unfoldable pub wordsOf : List ℕ → Bytes
-wordsOf [] = []
-wordsOf (w ∷ ws) = word w ++ wordsOf ws
+-- the words of a series: CapSize, CapType and the words of each request
+abbrev pub requestWords : List Request → List ℕ
+requestWords [] = []
+requestWords (r ∷ rs) = requested (r .kind) (r .capability) ++ requestWords rs
 
--- CapSize, CapType and the words of each; what stands before the series is not read
+-- data that requests what set-up gives; what stands before the series is not read
 unfoldable pub firstSeries : Bytes
-firstSeries =
-    replicate seriesAt 0
-    ++ wordsOf (2 ∷ 3 ∷ 0 ∷ 2 ∷ 4 ∷ 0 ∷ 2 ∷ 5 ∷ 0 ∷ 1 ∷ 6 ∷ 3 ∷ 7 ∷ 0 ∷ (2 ^ 256 - 1) ∷ [])
+firstSeries = replicate seriesAt 0 ++ wordsInBytes (requestWords firstCapabilities)
 
 -- a table without records that has room for the first ones
 pub record Empty (t : Bytes) : Type 0 where
@@ -30,7 +31,7 @@ pub record Empty (t : Bytes) : Type 0 where
   pub long : firstRoom ≤ length t
 
 -- what set-up is lent, where no check of its row fails
-pub record Lent (t key address kernelAddress : Bytes) : Type 0 where
+pub record SetUpLent (t key address kernelAddress : Bytes) : Type 0 where
   pub fits : lengthFits t ≡ true
   pub long : firstRoom ≤ length t
   pub keySize : length key ≡ keyBytes

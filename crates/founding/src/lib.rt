@@ -5,30 +5,39 @@ ghost use Rattle.rules.specs.Words.{keyBytes, addressBytes, num};
 ghost use Rattle.rules.specs.Table.{bytes};
 ghost use Rattle.rules.specs.Calls.{fixedRecords, fresh};
 ghost use Rattle.storing.specs.Storing.{Stored};
-ghost use Rattle.founding.specs.Founding.{Empty, Lent, firstSeries};
+ghost use Rattle.founding.specs.Founding.{Empty, SetUpLent, firstSeries};
 
 // The data of a Register that requests the first procedure's capabilities: CapSize, CapType and words of each.
 const FIRST_BYTES: usize = rules::SERIES_AT + 15 * rules::WORD_BYTES;
 
-// Where the last byte of a word of the series is.
-const LAST: usize = rules::SERIES_AT + rules::WORD_BYTES - 1;
+// Where in it the last byte of each CapSize is. That of the CapType is a word later, and then come the capability's words.
+const CALL_AT: usize = rules::SERIES_AT + rules::WORD_BYTES - 1;
+
+const REGISTER_AT: usize = CALL_AT + 3 * rules::WORD_BYTES;
+
+const DELETE_AT: usize = REGISTER_AT + 3 * rules::WORD_BYTES;
+
+const SET_ENTRY_AT: usize = DELETE_AT + 3 * rules::WORD_BYTES;
+
+const WRITE_AT: usize = SET_ENTRY_AT + 2 * rules::WORD_BYTES;
 
 // Call(0,0), Register(0,0), Delete(0,0), Set Entry and Write(0, 2^256−1).
 fn first_series() -> [u8; FIRST_BYTES]
     ensures { λ r. ⌜ r ≡ firstSeries ⌝ }
 {
     let mut d = [0u8; FIRST_BYTES];
-    d[LAST] = 2;
-    d[LAST + 32] = rules::Kind::CALL.0;
-    d[LAST + 96] = 2;
-    d[LAST + 128] = rules::Kind::REGISTER.0;
-    d[LAST + 192] = 2;
-    d[LAST + 224] = rules::Kind::DELETE.0;
-    d[LAST + 288] = 1;
-    d[LAST + 320] = rules::Kind::SET_ENTRY.0;
-    d[LAST + 352] = 3;
-    d[LAST + 384] = rules::Kind::WRITE.0;
-    moves::copy(&mut d[FIRST_BYTES - 32..FIRST_BYTES], &[0xff; 32]);
+    d[CALL_AT] = 2;
+    d[CALL_AT + rules::WORD_BYTES] = rules::Kind::CALL.0;
+    d[REGISTER_AT] = 2;
+    d[REGISTER_AT + rules::WORD_BYTES] = rules::Kind::REGISTER.0;
+    d[DELETE_AT] = 2;
+    d[DELETE_AT + rules::WORD_BYTES] = rules::Kind::DELETE.0;
+    d[SET_ENTRY_AT] = 1;
+    d[SET_ENTRY_AT + rules::WORD_BYTES] = rules::Kind::SET_ENTRY.0;
+    d[WRITE_AT] = 3;
+    d[WRITE_AT + rules::WORD_BYTES] = rules::Kind::WRITE.0;
+    let last = &mut d[FIRST_BYTES - rules::WORD_BYTES..FIRST_BYTES];
+    moves::copy(last, &[0xff; rules::WORD_BYTES]);
     d
 }
 
@@ -48,7 +57,7 @@ fn put_fixed(t: &mut [u8], key: &[u8], kernel_address: &[u8]) -> usize
 
 // Overwrites the table, whatever it held, with the first one.
 pub fn found(t: &mut [u8], key: &[u8], address: &[u8], kernel_address: &[u8])
-    requires { ⌜ Lent (now t) (now key) (now address) (now «kernel_address») ⌝ }
+    requires { ⌜ SetUpLent (now t) (now key) (now address) (now «kernel_address») ⌝ }
     ensures { λ _. ⌜ now (t .exit) ≡ bytes (length (now (t .entry))) (fresh (num (now (key .entry))) (num (now (address .entry))) (num (now («kernel_address» .entry)))) ⌝ }
 {
     moves::clear(t);

@@ -6,6 +6,7 @@ use native.Mathlib.Numerals.{add-one}
 use mathlib.Core.Path.{_≡_, sym, ap, _∙_}
 use mathlib.Core.List.{List, _∷_}
 use mathlib.Core.Bool.{Bool, true, false}
+use lib.ListN.{length}
 use Rattle.rules.specs.Words.{Bytes}
 use Rattle.rules.specs.Table.{Store, get}
 use Rattle.rules.specs.KernelStorage.{countSlot}
@@ -98,28 +99,30 @@ module _ {s : Store} {p n : ℕ} {request : Bytes} (need : SearchNeeds s p n req
             ∙ each-in-range s p (need .kind) (need .sound) i a (omega (arith, counted));
       }
 
--- The loop: the first i of `count` held capabilities were read and tested.
-pub record Seeking (s : Store) (p n : ℕ) (request : Bytes) (count i : ℕ) : Type 0 where
+-- The loop: the first i of `count` held capabilities were read and tested, each in the same room.
+pub record Seeking (s : Store) (p n : ℕ) (request : Bytes) (count : ℕ) (room : Bytes) (i : ℕ) : Type 0 where
+  pub size : length room ≡ 64
   pub all : count ≡ get s (countSlot p n)
   pub small : count ≤ 255
   pub inside : i ≤ count
   pub left : (kind : Kind) → number kind ≡ n → Left s p kind (capabilityIn kind request) count i
 
-pub seek-start : {s : Store} {p n : ℕ} {request : Bytes} {count : ℕ} → SearchNeeds s p n request
-    → count ≡ min (get s (countSlot p n)) smallLimit → Seeking s p n request count 0
+pub seek-start : {s : Store} {p n : ℕ} {request : Bytes} {count : ℕ} {room : Bytes} → SearchNeeds s p n request
+    → count ≡ min (get s (countSlot p n)) smallLimit → length room ≡ 64 → Seeking s p n request count room 0
 unfolding countOf
-seek-start {s} {p} {n} {count = count} need e =
+seek-start {s} {p} {n} {count = count} need e l =
     let all : count ≡ get s (countSlot p n) = omega (arith, count-small need) in
     record {
+      size = l;
       all = all;
       small = omega (arith, count-small need);
       inside = omega arith;
       left = λ kind q. left-all (all ∙ ap (λ (m : ℕ). get s (countSlot p m)) (sym q));
     }
 
-pub seek-end : {s : Store} {p n : ℕ} {request : Bytes} {count i : ℕ} → Seeking s p n request count i → count ≤ i
+pub seek-end : {s : Store} {p n : ℕ} {request : Bytes} {count : ℕ} {room : Bytes} {i : ℕ} → Seeking s p n request count room i → count ≤ i
     → Searched s p n request (record { contained = false; tests = count })
-seek-end {count = count} {i} g h =
+seek-end {count = count} {i = i} g h =
     let last : i ≡ count = omega (arith, g .inside) in
     record {
       contained = λ kind q. left-none (g .left kind q) h .0;
@@ -128,15 +131,16 @@ seek-end {count = count} {i} g h =
     }
 
 -- one more is read and tested
-module _ {s : Store} {p n : ℕ} {request : Bytes} {count i : ℕ} (g : Seeking s p n request count i) (h : i < count)
+module _ {s : Store} {p n : ℕ} {request : Bytes} {count : ℕ} {room : Bytes} {i : ℕ} (g : Seeking s p n request count room i) (h : i < count)
     {before bs : Bytes} (c : CapabilityOf s p n (i + 1) before bs)
     {r : Bool} (q : (kind : Kind) → number kind ≡ n → r ≡ within kind (capabilityIn kind request) (capabilityIn kind bs)) where
   tested : {t : Bool} → r ≡ t → (kind : Kind) → number kind ≡ n → within kind (capabilityIn kind request) (capability s p kind (i + 1)) ≡ t
   tested e kind names = ap (within kind (capabilityIn kind request)) (sym (c .is kind names)) ∙ sym (q kind names) ∙ e
 
-  pub seek-later : r ≡ false → Seeking s p n request count (i + 1)
+  pub seek-later : r ≡ false → Seeking s p n request count bs (i + 1)
   seek-later e =
       record {
+        size = c .size;
         all = g .all;
         small = g .small;
         inside = omega arith;

@@ -13,7 +13,8 @@ pub struct Search {
     pub tests: usize,
 }
 
-// Held capabilities of the requested one's type in order, up to and including the first that contains it.
+// Held capabilities of the requested one's type in order, up to and including the first that contains it. Their records stand one
+// behind the other, so each is looked for where the one before it ends.
 pub fn search_held(
     t: &[u8],
     used: usize,
@@ -25,11 +26,14 @@ pub fn search_held(
     requires { ⌜ SearchNeeds (store (now t)) (num (now procedure)) (kind .0) (now request) ⌝ }
     ensures { λ r. ⌜ Searched (store (now (t .entry))) (num (now (procedure .entry))) (kind .0) (now (request .entry)) r ⌝ }
 {
-    let count = holding::count_of(t, used, procedure, kind);
+    let count = holding::read_count(t, used, procedure, kind);
+    let number = count.number;
+    let mut guess = count.next;
+    let mut held = [0u8; holding::CAPABILITY_BYTES];
     let mut i = 0;
-    while i < count {
+    while i < number {
         i += 1;
-        let held = holding::capability(t, used, procedure, kind, i as u8);
+        guess = holding::read_words(&mut held, t, used, procedure, kind, i as u8, guess);
         if rights::within(kind, request, &held) {
             return Search {
                 contained: true,
@@ -39,6 +43,6 @@ pub fn search_held(
     }
     Search {
         contained: false,
-        tests: count,
+        tests: number,
     }
 }

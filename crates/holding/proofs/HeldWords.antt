@@ -1,5 +1,5 @@
 -- The words of a held capability, looked up in the table and put one behind the other: they are the capability that the store holds.
-use Prim.Native.Nat.{ℕ, _<_, min}
+use Prim.Native.Nat.{ℕ, _+_, _<_, min}
 use native.Mathlib.Omega.{arith}
 use mathlib.Core.Path.{_≡_, refl, sym, ap, ap₂, _∙_}
 use mathlib.Core.List.{[], _∷_, _++_}
@@ -8,7 +8,7 @@ use lib.Seq.{take-at, drop-at, drop-drop}
 use borrow.Rule.Slice.PartMut.{putMid, postOf}
 use Rattle.rules.specs.Words.{Bytes, num, word, words}
 use Rattle.rules.specs.Table.{Store, get, store}
-use Rattle.rules.specs.KernelStorage.{wordSlot}
+use Rattle.rules.specs.KernelStorage.{countSlot, wordSlot}
 use Rattle.rules.specs.Procedures.{wordsFrom, capability}
 use Rattle.rules.specs.Source.{wordsOf}
 use Rattle.laws.proofs.KindFacts.{words-of}
@@ -17,7 +17,8 @@ use Rattle.laws.proofs.Numerals.{all-bytes}
 use Rattle.laws.proofs.Looked.{looked-number}
 use Rattle.words.specs.Words.{smallLimit}
 use Rattle.slots.specs.Slots.{KeyOf}
-use Rattle.holding.specs.Holding.{WordOf, CapabilityOf}
+use Rattle.finding.specs.Finding.{keysBelow}
+use Rattle.holding.specs.Holding.{WordOf, CountOf, CapabilityOf, guessBehind, WordsRead}
 
 -- What is looked up at a slot.
 module _ (t : Bytes) (values : (i : ℕ) → getD t i 0 < 256) {slot : ℕ} {key w : Bytes}
@@ -29,8 +30,15 @@ module _ (t : Bytes) (values : (i : ℕ) → getD t i 0 < 256) {slot : ℕ} {key
         number = ap num q ∙ looked-number t (all-bytes t values) (num key) ∙ ap (get (store t)) (k .number);
       }
 
-  pub looked-small : {r : ℕ} → r ≡ min (num w) smallLimit → r ≡ min (get (store t) slot) smallLimit
-  looked-small e = e ∙ ap (λ (x : ℕ). min x smallLimit) (looked .number)
+-- and at the slot of a count
+pub counted : (t : Bytes) (values : (i : ℕ) → getD t i 0 < 256) {p n : ℕ} {key w : Bytes} {number next : ℕ} → KeyOf (countSlot p n) key
+    → (w ≡ word (get (store t) (num key))) × (next ≡ keysBelow (store t) (num key + 1)) → number ≡ min (num w) smallLimit
+    → CountOf (store t) p n (record { number = number; next = next })
+counted t values k q e =
+    record {
+      number = e ∙ ap (λ (x : ℕ). min x smallLimit) (looked t values k (q .0) .number);
+      next = q .1 ∙ ap (λ (x : ℕ). keysBelow (store t) (x + 1)) (k .number);
+    }
 
 -- The words of bytes that begin with one word, and with two.
 one-in : (a rest : Bytes) → length a ≡ 32 → words 1 (a ++ rest) ≡ num a ∷ []
@@ -42,29 +50,26 @@ unfolding words
 two-in a b rest l m =
     ap₂ (λ (x y : Bytes). num x ∷ num y ∷ []) (take-at a (b ++ rest) 32 l) (ap (take 32) (drop-at a (b ++ rest) 32 l) ∙ take-at b rest 32 m)
 
-pub copied : {x : ℕ} {copy w : Bytes} → copy ≡ w → WordOf x w → WordOf x copy
-copied c h = record { size = ap length c ∙ h .size; number = ap num c ∙ h .number }
-
 -- The capability that is read, by how many words it has.
 module _ {s : Store} {p n i : ℕ} where
-  pub read-none : (bs : Bytes) → length bs ≡ 64 → 0 ≡ wordsOf n → CapabilityOf s p n i bs bs
+  in-none : (bs : Bytes) → length bs ≡ 64 → 0 ≡ wordsOf n → CapabilityOf s p n i bs bs
   unfolding words capability wordsFrom
-  read-none bs l e = record { size = l; is = λ k q. rw (words-of k q e); behind = refl }
+  in-none bs l e = record { size = l; is = λ k q. rw (words-of k q e); behind = refl }
 
-  pub read-one : (bs : Bytes) → length bs ≡ 64 → {first : Bytes} → WordOf (get s (wordSlot p n i 0)) first → 1 ≡ wordsOf n
+  in-one : (bs : Bytes) → length bs ≡ 64 → {first : Bytes} → WordOf (get s (wordSlot p n i 0)) first → 1 ≡ wordsOf n
       → CapabilityOf s p n i bs (first ++ postOf 0 32 bs)
   unfolding capability wordsFrom
-  read-one bs l {first} h e =
+  in-one bs l {first} h e =
       record {
         size = simp (length-append, length-drop) (omega (arith, h .size));
         is = λ k q. rw (words-of k q e) (one-in first (drop 32 bs) (h .size) ∙ ap (λ (x : ℕ). x ∷ []) (rw q (h .number)));
         behind = rw (sym e) (drop-at first (drop 32 bs) 32 (h .size));
       }
 
-  pub read-two : (bs : Bytes) → length bs ≡ 64 → {first second : Bytes} → WordOf (get s (wordSlot p n i 0)) first
+  in-two : (bs : Bytes) → length bs ≡ 64 → {first second : Bytes} → WordOf (get s (wordSlot p n i 0)) first
       → WordOf (get s (wordSlot p n i 1)) second → 2 ≡ wordsOf n → CapabilityOf s p n i bs (putMid 32 32 (first ++ postOf 0 32 bs) second)
   unfolding capability wordsFrom
-  read-two bs l {first} {second} h g e =
+  in-two bs l {first} {second} h g e =
       let front : take 32 (first ++ drop 32 bs) ≡ first = take-at first (drop 32 bs) 32 (h .size) in
       let back : drop 32 (first ++ drop 32 bs) ≡ drop 32 bs = drop-at first (drop 32 bs) 32 (h .size) in
       rw (front, back)
@@ -81,3 +86,29 @@ module _ {s : Store} {p n i : ℕ} where
             ∙ drop-at second (drop 32 (drop 32 bs)) 32 (g .size)
             ∙ drop-drop 32 32 bs);
       })
+
+-- and where the next one is looked for: behind the last word
+module _ (t : Bytes) (values : (i : ℕ) → getD t i 0 < 256) {p n i guess : ℕ} (bs : Bytes) (l : length bs ≡ 64) where
+  pub read-none : 0 ≡ wordsOf n → WordsRead (store t) p n i guess bs bs guess
+  unfolding guessBehind
+  read-none e = record { held = in-none bs l e; next = rw (sym e, guessBehind) }
+
+  module _ {key first : Bytes} {next : ℕ} (k : KeyOf (wordSlot p n i 0) key)
+      (q : (first ≡ word (get (store t) (num key))) × (next ≡ keysBelow (store t) (num key + 1))) where
+    pub read-one : 1 ≡ wordsOf n → WordsRead (store t) p n i guess bs (first ++ postOf 0 32 bs) next
+    unfolding guessBehind
+    read-one e =
+        record {
+          held = in-one bs l (looked t values k (q .0)) e;
+          next = rw (sym e, guessBehind) (q .1 ∙ ap (λ (x : ℕ). keysBelow (store t) (x + 1)) (k .number));
+        }
+
+    pub read-two : {key₂ second : Bytes} {last : ℕ} → KeyOf (wordSlot p n i 1) key₂
+        → (second ≡ word (get (store t) (num key₂))) × (last ≡ keysBelow (store t) (num key₂ + 1)) → 2 ≡ wordsOf n
+        → WordsRead (store t) p n i guess bs (putMid 32 32 (first ++ postOf 0 32 bs) second) last
+    unfolding guessBehind
+    read-two k₂ q₂ e =
+        record {
+          held = in-two bs l (looked t values k (q .0)) (looked t values k₂ (q₂ .0)) e;
+          next = rw (sym e, guessBehind) (q₂ .1 ∙ ap (λ (x : ℕ). keysBelow (store t) (x + 1)) (k₂ .number));
+        }

@@ -4,61 +4,71 @@ ghost use Prim.Native.Nat.{_*_, min};
 ghost use lib.ListN.{length};
 ghost use Rattle.rules.specs.Words.{wordBytes, num};
 ghost use Rattle.rules.specs.Table.{get, store};
-ghost use Rattle.rules.specs.KernelStorage.{countSlot, wordSlot};
+ghost use Rattle.rules.specs.KernelStorage.{countSlot};
 ghost use Rattle.rules.specs.Capabilities.{greatestWords};
 ghost use Rattle.words.specs.Words.{smallLimit};
-ghost use Rattle.holding.specs.Holding.{Readable, WordOf, noCapability, CapabilityOf};
+ghost use Rattle.holding.specs.Holding.{Readable, CountOf, WordsRead, noCapability, CapabilityOf};
 
 // Room for a capability of any type.
-const CAPABILITY_BYTES: usize = rules::WORD_BYTES * rules::GREATEST_WORDS;
+pub const CAPABILITY_BYTES: usize = rules::WORD_BYTES * rules::GREATEST_WORDS;
 
-// How many capabilities of a type a procedure holds, or what `small` makes of a count that is not small.
+// How many capabilities of a type a procedure holds, and how many records have at most that count's key: where the first of these
+// capabilities is looked for.
+pub struct Count {
+    pub number: usize,
+    pub next: usize,
+}
+
+// The count of a type, or what `small` makes of one that is not small.
+pub fn read_count(t: &[u8], used: usize, procedure: &[u8], kind: rules::Kind) -> Count
+    requires { ⌜ Readable (now t) used (now procedure) ⌝ }
+    ensures { λ r. ⌜ CountOf (store (now (t .entry))) (num (now (procedure .entry))) (kind .0) r ⌝ }
+{
+    let slot = slots::count_slot(procedure, kind);
+    let mut word = [0u8; rules::WORD_BYTES];
+    let next = records::look_near(&mut word, t, used, used, &slot);
+    Count {
+        number: words::small(&word),
+        next,
+    }
+}
+
+// The number alone.
 pub fn count_of(t: &[u8], used: usize, procedure: &[u8], kind: rules::Kind) -> usize
     requires { ⌜ Readable (now t) used (now procedure) ⌝ }
     ensures { λ r. ⌜ r ≡ min (get (store (now (t .entry))) (countSlot (num (now (procedure .entry))) (kind .0))) smallLimit ⌝ }
 {
-    let slot = slots::count_slot(procedure, kind);
-    words::small(&records::look(t, used, &slot))
+    let count = read_count(t, used, procedure, kind);
+    count.number
 }
 
-// Word k, from 0, of the i-th capability of a type that a procedure holds.
-fn word_of(
+// The words of the i-th capability of a type that a procedure holds, into room for two. Only those that the type has are looked up,
+// at a guess first; the bytes behind them stay. The result is a guess for the next capability's.
+pub fn read_words(
+    to: &mut [u8],
     t: &[u8],
     used: usize,
     procedure: &[u8],
     kind: rules::Kind,
     i: u8,
-    k: u8,
-) -> [u8; rules::WORD_BYTES]
-    requires { ⌜ Readable (now t) used (now procedure) ⌝ }
-    ensures { λ r. ⌜ WordOf (get (store (now (t .entry))) (wordSlot (num (now (procedure .entry))) (kind .0) i k)) r ⌝ }
-{
-    let slot = slots::word_slot(procedure, kind, i, k);
-    records::look(t, used, &slot)
-}
-
-// The words of the i-th capability of a type that a procedure holds, into room for two. Only those that the type has are looked up;
-// the bytes behind them stay.
-fn read_words(to: &mut [u8], t: &[u8], used: usize, procedure: &[u8], kind: rules::Kind, i: u8)
+    guess: usize,
+) -> usize
     requires { ⌜ length (now to) ≡ wordBytes * greatestWords ⌝ }
     requires { ⌜ Readable (now t) used (now procedure) ⌝ }
-    ensures { λ _. ⌜ CapabilityOf (store (now (t .entry))) (num (now (procedure .entry))) (kind .0) i (now (to .entry)) (now (to .exit)) ⌝ }
+    ensures { λ r. ⌜ WordsRead (store (now (t .entry))) (num (now (procedure .entry))) (kind .0) i guess (now (to .entry)) (now (to .exit)) r ⌝ }
 {
     let count = kind.words();
     if count == 0 {
-        return;
+        return guess;
     }
-    moves::copy(
-        &mut to[0..rules::WORD_BYTES],
-        &word_of(t, used, procedure, kind, i, 0),
-    );
+    let first = slots::word_slot(procedure, kind, i, 0);
+    let next = records::look_near(&mut to[0..rules::WORD_BYTES], t, used, guess, &first);
     if count == 1 {
-        return;
+        return next;
     }
-    moves::copy(
-        &mut to[rules::WORD_BYTES..CAPABILITY_BYTES],
-        &word_of(t, used, procedure, kind, i, 1),
-    );
+    let second = slots::word_slot(procedure, kind, i, 1);
+    let back = &mut to[rules::WORD_BYTES..CAPABILITY_BYTES];
+    records::look_near(back, t, used, next, &second)
 }
 
 // The i-th capability of a type that a procedure holds: its words come first, then zeros.
@@ -73,6 +83,6 @@ pub fn capability(
     ensures { λ r. ⌜ CapabilityOf (store (now (t .entry))) (num (now (procedure .entry))) (kind .0) i noCapability r ⌝ }
 {
     let mut r = [0u8; CAPABILITY_BYTES];
-    read_words(&mut r, t, used, procedure, kind, i);
+    read_words(&mut r, t, used, procedure, kind, i, used);
     r
 }

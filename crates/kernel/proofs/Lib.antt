@@ -1,6 +1,5 @@
-pub mod Lent
+pub mod FirstChecks
 pub mod SetUpRow
 pub mod TurnRow
 pub mod LookRow
 pub mod SystemRow
-pub mod Demanded

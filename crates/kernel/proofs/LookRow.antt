@@ -11,7 +11,7 @@ use Rattle.rules.specs.Source.{refusedReply, replyOf}
 use Rattle.rules.specs.declared.Reply.{Reply}
 use Rattle.results.specs.Results.{Gives}
 use Rattle.results.proofs.Rows.{refusal, answers, refuses, passes, ends}
-use Rattle.kernel.proofs.Lent.{wrong-bytes, right-bytes}
+use Rattle.kernel.proofs.FirstChecks.{wrong-bytes, right-bytes}
 
 module _ (t k : Bytes) where
   pub look-wrong : (length k ≡ wordBytes → ⊥) → {r : Reply} → r ≡ refusedReply (codeNumber ed) → Gives (look t k) r t

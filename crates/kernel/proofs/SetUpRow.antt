@@ -1,27 +1,20 @@
--- Set-up's row: each return of the code is a place in it. The 13 records that it needs are counted in the laws.
+-- Set-up's row up to the sizes: each return of the code is a place in it.
 use Prim.Native.Nat.{_%_, _≤_, _<_}
-use mathlib.Core.Path.{_≡_, sym, ap, _∙_}
-use mathlib.Core.Bool.{Bool, true, false, not}
-use lib.Dec.{eqb}
+use mathlib.Core.Path.{_≡_, ap}
+use mathlib.Core.Bool.{false, not}
 use lib.ListN.{length}
-use borrow.Author.Tests.{eq-eqb, ne-eqb, le-leb, lt-leb, lt-ltb, le-ltb}
-use Rattle.rules.specs.Words.{Bytes, AllBytes, keyBytes, addressBytes, num}
-use Rattle.rules.specs.Table.{bytes, lengthFits}
-use Rattle.rules.specs.Sound.{IsKey, IsAddress}
-use Rattle.rules.specs.Answers.{ed, ef, e4, e7, codeNumber, done, outcome}
-use Rattle.rules.specs.Calls.{isZero, fresh, setUp}
-use Rattle.rules.specs.Source.{refusedReply, replyOf}
+use borrow.Author.Tests.{eq-eqb, ne-eqb, le-leb, lt-leb}
+use Rattle.rules.specs.Words.{Bytes, keyBytes, addressBytes}
+use Rattle.rules.specs.Table.{recordSize, greatestTable, lengthFits}
+use Rattle.rules.specs.Answers.{ed, ef, codeNumber, outcome}
+use Rattle.rules.specs.Calls.{setUp}
+use Rattle.rules.specs.Source.{refusedReply}
 use Rattle.rules.specs.declared.Reply.{Reply}
-use Rattle.laws.proofs.Fresh.{set-up-bytes}
-use Rattle.laws.proofs.Numbers.{non-zero}
-use Rattle.laws.proofs.Words.{num-fits}
-use Rattle.founding.specs.Founding.{Lent}
 use Rattle.results.specs.Results.{Gives}
-use Rattle.results.proofs.Rows.{refusal, changes, refuses, passes, ends}
-use Rattle.kernel.specs.Parts.{RightSizes, setUpOnSizes}
-use Rattle.kernel.proofs.Lent.{wrong-bytes, right-bytes}
+use Rattle.results.proofs.Rows.{refusal, refuses, passes}
+use Rattle.starting.specs.Starting.{RightSizes, setUpOnSizes}
+use Rattle.kernel.proofs.FirstChecks.{wrong-bytes, right-bytes}
 
--- the sizes
 module _ (t k a ka : Bytes) where
   pub key-wrong : (length k ≡ keyBytes → ⊥) → {r : Reply} → r ≡ refusedReply (codeNumber ed) → Gives (setUp t k a ka) r t
   unfolding setUp
@@ -51,19 +44,19 @@ module _ (t k a ka : Bytes) where
             )
             (refusal t ef f)
 
-        pub not-whole : (length t % 64 ≡ 0 → ⊥) → {r : Reply} → r ≡ refusedReply (codeNumber ef) → Gives (setUp t k a ka) r t
-        not-whole h f = misfit (unfold lengthFits in rw (ne-eqb (length t % 64) 0 h)) f
+        pub not-whole : (length t % recordSize ≡ 0 → ⊥) → {r : Reply} → r ≡ refusedReply (codeNumber ef) → Gives (setUp t k a ka) r t
+        not-whole h f = misfit (unfold lengthFits in rw (ne-eqb (length t % recordSize) 0 h)) f
 
-        module _ (whole : length t % 64 ≡ 0) where
-          pub too-long : 65536 < length t → {r : Reply} → r ≡ refusedReply (codeNumber ef) → Gives (setUp t k a ka) r t
-          too-long h f = misfit (unfold lengthFits in rw (eq-eqb (length t % 64) 0 whole, lt-leb (length t) 65536 h)) f
+        module _ (whole : length t % recordSize ≡ 0) where
+          pub too-long : greatestTable < length t → {r : Reply} → r ≡ refusedReply (codeNumber ef) → Gives (setUp t k a ka) r t
+          too-long h f = misfit (unfold lengthFits in rw (eq-eqb (length t % recordSize) 0 whole, lt-leb (length t) greatestTable h)) f
 
-          module _ (short : length t ≤ 65536) where
+          module _ (short : length t ≤ greatestTable) where
             pub right-sizes : RightSizes t k a ka
             unfolding lengthFits
             right-sizes =
                 record {
-                  fits = rw (eq-eqb (length t % 64) 0 whole) (le-leb (length t) 65536 short);
+                  fits = rw (eq-eqb (length t % recordSize) 0 whole) (le-leb (length t) greatestTable short);
                   keySize = key;
                   addressSize = address;
                   kernelSize = kernel;
@@ -79,68 +72,3 @@ module _ (t k a ka : Bytes) where
                   passes (ap not (right-sizes .fits)),
                 )
                 g
-
--- from there on
-module _ {t k a ka : Bytes} (z : RightSizes t k a ka) (kb : AllBytes k) (ab : AllBytes a) (kab : AllBytes ka) {p : Bool} (e : p ≡ eqb (num k) 0) where
-  zero-key : {b : Bool} → p ≡ b → isZero (num k) ≡ b
-  unfolding isZero
-  zero-key q = sym e ∙ q
-
-  pub key-zero : p ≡ true → {r : Reply} → r ≡ refusedReply (codeNumber e4) → Gives (outcome t (setUpOnSizes t k a ka)) r t
-  unfolding setUpOnSizes
-  key-zero q f = rw (refuses (zero-key q)) (refusal t e4 f)
-
-  module _ (key : p ≡ false) {i : Bool} (g : i ≡ eqb (num a) 0) where
-    zero-address : {b : Bool} → i ≡ b → isZero (num a) ≡ b
-    unfolding isZero
-    zero-address q = sym g ∙ q
-
-    pub address-zero : i ≡ true → {r : Reply} → r ≡ refusedReply (codeNumber e4) → Gives (outcome t (setUpOnSizes t k a ka)) r t
-    unfolding setUpOnSizes
-    address-zero q f = rw (passes (zero-key key), refuses (zero-address q)) (refusal t e4 f)
-
-    module _ (address : i ≡ false) {j : Bool} (h : j ≡ eqb (num ka) 0) where
-      zero-kernel : {b : Bool} → j ≡ b → isZero (num ka) ≡ b
-      unfolding isZero
-      zero-kernel q = sym h ∙ q
-
-      pub kernel-zero : j ≡ true → {r : Reply} → r ≡ refusedReply (codeNumber e4) → Gives (outcome t (setUpOnSizes t k a ka)) r t
-      unfolding setUpOnSizes
-      kernel-zero q f = rw (passes (zero-key key), passes (zero-address address), refuses (zero-kernel q)) (refusal t e4 f)
-
-      module _ (kernel : j ≡ false) where
-        is-key : IsKey (num k)
-        is-key = record { nonZero = non-zero (num k) (sym e ∙ key); fits = num-fits keyBytes k kb (z .keySize) }
-
-        is-address : IsAddress (num a)
-        is-address = record { nonZero = non-zero (num a) (sym g ∙ address); fits = num-fits addressBytes a ab (z .addressSize) }
-
-        is-kernel : IsAddress (num ka)
-        is-kernel = record { nonZero = non-zero (num ka) (sym h ∙ kernel); fits = num-fits addressBytes ka kab (z .kernelSize) }
-
-        pub set-up-no-room : length t < 832 → {r : Reply} → r ≡ refusedReply (codeNumber e7) → Gives (outcome t (setUpOnSizes t k a ka)) r t
-        unfolding setUpOnSizes
-        set-up-no-room l f =
-            let full = set-up-bytes (num k) (num a) (num ka) is-key is-address is-kernel t ∙ lt-ltb (length t) 832 l in
-            rw (passes (zero-key key), passes (zero-address address), passes (zero-kernel kernel), refuses full) (refusal t e7 f)
-
-        module _ (l : 832 ≤ length t) where
-          pub set-up-lent : Lent t k a ka
-          set-up-lent =
-              record {
-                fits = z .fits;
-                long = l;
-                keySize = z .keySize;
-                addressSize = z .addressSize;
-                kernelSize = z .kernelSize;
-                keyIs = is-key;
-                addressIs = is-address;
-                kernelIs = is-kernel;
-              }
-
-          pub set-up-done : {t′ : Bytes} → t′ ≡ bytes (length t) (fresh (num k) (num a) (num ka))
-              → {r : Reply} → r ≡ replyOf done → Gives (outcome t (setUpOnSizes t k a ka)) r t′
-          unfolding setUpOnSizes
-          set-up-done q f =
-              let space = set-up-bytes (num k) (num a) (num ka) is-key is-address is-kernel t ∙ le-ltb (length t) 832 l in
-              rw (passes (zero-key key), passes (zero-address address), passes (zero-kernel kernel), passes space, ends) (changes t _ _ f q)

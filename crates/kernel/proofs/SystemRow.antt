@@ -14,7 +14,7 @@ use Rattle.rules.specs.Source.{refusedReply}
 use Rattle.rules.specs.declared.Reply.{Reply}
 use Rattle.results.specs.Results.{Gives}
 use Rattle.results.proofs.Rows.{refusal, refuses, passes, ends}
-use Rattle.kernel.proofs.Lent.{wrong-bytes, right-bytes}
+use Rattle.kernel.proofs.FirstChecks.{wrong-bytes, right-bytes}
 
 module _ (t m code mask : Bytes) where
   pub mask-wrong : (length mask ≡ wordBytes → ⊥) → {r : Reply} → r ≡ refusedReply (codeNumber ed) → Gives (systemCall t m code mask) r t

@@ -1,35 +1,19 @@
--- Turn's row: each return of the code is a place in it.
-use mathlib.Core.Path.{_≡_, sym, ap, _∙_}
-use mathlib.Core.Bool.{Bool, true, false, not}
+-- Turn's row up to the table: each return of the code is a place in it.
+use mathlib.Core.Path.{_≡_}
+use mathlib.Core.Bool.{true, false, not}
 use lib.ListN.{length}
-use Rattle.rules.specs.Words.{Bytes, keyBytes, num}
-use Rattle.rules.specs.Table.{put, bytes, store}
-use Rattle.rules.specs.KernelStorage.{currentSlot}
-use Rattle.rules.specs.Procedures.{listed}
+use Rattle.rules.specs.Words.{Bytes, keyBytes}
 use Rattle.rules.specs.Sound.{soundTable}
-use Rattle.rules.specs.Answers.{ed, ef, x6633, codeNumber, done, outcome}
+use Rattle.rules.specs.Answers.{ed, ef, codeNumber, outcome}
 use Rattle.rules.specs.Calls.{turn}
-use Rattle.rules.specs.Source.{refusedReply, replyOf}
+use Rattle.rules.specs.Source.{refusedReply}
 use Rattle.rules.specs.declared.Reply.{Reply}
 use Rattle.results.specs.Results.{Gives}
-use Rattle.results.proofs.Rows.{refusal, changes, refuses, passes, ends}
-use Rattle.kernel.specs.Parts.{turnOnSound}
-use Rattle.kernel.proofs.Lent.{wrong-bytes, right-bytes}
+use Rattle.results.proofs.Rows.{refusal, refuses, passes}
+use Rattle.turning.specs.Turning.{turnOnSound}
+use Rattle.kernel.proofs.FirstChecks.{wrong-bytes, right-bytes}
 
 module _ (t k : Bytes) where
-  module _ {l : Bool} (e : l ≡ listed (store t) (num k)) where
-    is-listed : {b : Bool} → l ≡ b → not (listed (store t) (num k)) ≡ not b
-    is-listed q = ap not (sym e ∙ q)
-
-    pub turn-not-listed : l ≡ false → {r : Reply} → r ≡ refusedReply (codeNumber x6633) → Gives (outcome t (turnOnSound t k)) r t
-    unfolding turnOnSound
-    turn-not-listed q f = rw (refuses (is-listed q)) (refusal t x6633 f)
-
-    pub turn-done : l ≡ true → {t′ : Bytes} → t′ ≡ bytes (length t) (put (store t) currentSlot (num k))
-        → {r : Reply} → r ≡ replyOf done → Gives (outcome t (turnOnSound t k)) r t′
-    unfolding turnOnSound
-    turn-done q h f = rw (passes (is-listed q), ends) (changes t _ _ f h)
-
   pub turn-wrong : (length k ≡ keyBytes → ⊥) → {r : Reply} → r ≡ refusedReply (codeNumber ed) → Gives (turn t k) r t
   unfolding turn
   turn-wrong h f = rw (refuses (wrong-bytes keyBytes k h)) (refusal t ed f)

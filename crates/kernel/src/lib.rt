@@ -6,36 +6,7 @@ use rules::Reply;
 use soundness::Soundness;
 ghost use mathlib.Core.Path.{_≡_};
 ghost use mathlib.Core.List.{[]};
-ghost use lib.ListN.{length};
-ghost use Rattle.rules.specs.Words.{keyBytes};
-ghost use Rattle.rules.specs.Answers.{outcome};
-ghost use Rattle.results.specs.Results.{SoundWith, Gives};
 ghost use Rattle.kernel.specs.Promises.{SetUpPromise, TurnPromise, LookPromise, SystemCallPromise, PayloadPromise};
-ghost use Rattle.kernel.specs.Parts.{RightSizes, setUpOnSizes, turnOnSound};
-
-// The bytes of the 13 records that set-up needs.
-const FIRST_ROOM: usize = 13 * rules::RECORD_SIZE;
-
-// Set-up once the sizes are right: 66 e4, 66 e7; then the first table, whatever the table held.
-fn set_up_fresh(t: &mut [u8], key: &[u8], address: &[u8], kernel_address: &[u8]) -> Reply
-    requires { ⌜ RightSizes (now t) (now key) (now address) (now «kernel_address») ⌝ }
-    ensures { λ r. ⌜ Gives (outcome (now (t .entry)) (setUpOnSizes (now (t .entry)) (now (key .entry)) (now (address .entry)) (now («kernel_address» .entry)))) r (now (t .exit)) ⌝ }
-{
-    if words::is_zero(key) {
-        return Reply::refused(Refusal::ZERO);
-    }
-    if words::is_zero(address) {
-        return Reply::refused(Refusal::ZERO);
-    }
-    if words::is_zero(kernel_address) {
-        return Reply::refused(Refusal::ZERO);
-    }
-    if t.len() < FIRST_ROOM {
-        return Reply::refused(Refusal::NO_ROOM);
-    }
-    founding::found(t, key, address, kernel_address);
-    Reply::done()
-}
 
 // Set-up: 66 ed for each size, 66 ef for the table's length; then the rest.
 pub fn set_up(t: &mut [u8], key: &[u8], address: &[u8], kernel_address: &[u8]) -> Reply
@@ -56,21 +27,7 @@ pub fn set_up(t: &mut [u8], key: &[u8], address: &[u8], kernel_address: &[u8]) -
     if rules::GREATEST_TABLE < t.len() {
         return Reply::refused(Refusal::UNSOUND);
     }
-    set_up_fresh(t, key, address, kernel_address)
-}
-
-// Turn on a sound table: 66 33; then the current slot alone changes.
-fn turn_to(t: &mut [u8], used: usize, key: &[u8]) -> Reply
-    requires { ⌜ SoundWith (now t) used ⌝ }
-    requires { ⌜ length (now key) ≡ keyBytes ⌝ }
-    ensures { λ r. ⌜ Gives (outcome (now (t .entry)) (turnOnSound (now (t .entry)) (now (key .entry)))) r (now (t .exit)) ⌝ }
-{
-    if !acting::is_listed(t, used, key) {
-        return Reply::refused(Refusal::NOT_LISTED);
-    }
-    let slot = slots::current_slot();
-    storing::put(t, used, &slot, &right::right_word(key));
-    Reply::done()
+    starting::set_up_fresh(t, key, address, kernel_address)
 }
 
 // Turn: the host names the running procedure.
@@ -82,7 +39,7 @@ pub fn turn(t: &mut [u8], key: &[u8]) -> Reply
     }
     match soundness::sound(t) {
         Soundness::Unsound => Reply::refused(Refusal::UNSOUND),
-        Soundness::Sound(used) => turn_to(t, used, key),
+        Soundness::Sound(used) => turning::turn_to(t, used, key),
     }
 }
 

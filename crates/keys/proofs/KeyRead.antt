@@ -25,10 +25,6 @@ module _ (key : Bytes) (size : length key ≡ wordBytes) (fits : (i : ℕ) → g
   unfolding inKernelStorage num numAfter
   mark-read = ap (λ (x : ℕ). eqb x kernelMark) (num-take key bytes 4 28 size)
 
-  pub region-read : getD key 4 0 ≡ regionOf (num key)
-  unfolding regionOf
-  region-read = num-byte key bytes 4 27 size
-
   pub middle-read : MiddleOf (num key) (take 24 (drop 5 key))
   unfolding middleOf
   middle-read =

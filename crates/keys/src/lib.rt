@@ -5,7 +5,7 @@ ghost use lib.ListN.{length, take, drop};
 ghost use Rattle.rules.specs.Words.{wordBytes, num};
 ghost use Rattle.rules.specs.KernelStorage.{inKernelStorage};
 ghost use Rattle.rules.specs.KernelStorage.{endSecond, endThird};
-ghost use Rattle.keys.specs.Keys.{MiddleOf, regionOf, endFirst};
+ghost use Rattle.keys.specs.Keys.{MiddleOf, endFirst};
 
 // Byte 4 is the region, bytes 5 to 28 the middle, bytes 29 to 31 the end.
 pub const REGION_AT: usize = 4;
@@ -20,13 +20,6 @@ pub fn in_kernel_storage(key: &[u8]) -> bool
     ensures { λ r. ⌜ r ≡ inKernelStorage (num (now (key .entry))) ⌝ }
 {
     words::same(&key[0..REGION_AT], &rules::KERNEL_MARK)
-}
-
-pub fn region_of(key: &[u8]) -> u8
-    requires { ⌜ length (now key) ≡ wordBytes ⌝ }
-    ensures { λ r. ⌜ r ≡ regionOf (num (now (key .entry))) ⌝ }
-{
-    key[REGION_AT]
 }
 
 // Bytes `from` to `to` of a key, without the last.

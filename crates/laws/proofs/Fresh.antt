@@ -12,13 +12,14 @@ use borrow.Author.Tests.{lt-ltb, le-ltb, ltb-true, ltb-false}
 use Rattle.rules.specs.Words.{Bytes}
 use Rattle.rules.specs.Table.{recordSize, Record, _holds_, Store, put, puts, recordBefore, room, Ascending}
 use Rattle.rules.specs.KernelStorage.{ending, addressSlot, indexSlot, countSlot, wordSlot, lengthSlot, placeSlot, kernelAddressSlot, currentSlot, entrySlot}
-use Rattle.rules.specs.Capabilities.{write, kinds, number}
+use Rattle.rules.specs.Capabilities.{write, number}
 use Rattle.rules.specs.Procedures.{listLength}
 use Rattle.rules.specs.Sound.{IsKey, IsAddress}
 use Rattle.rules.specs.Messages.{sameKind, requestedOf}
 use Rattle.rules.specs.Examples.{firstRecords}
 use Rattle.rules.specs.Calls.{noRoom, wordRecords, capabilityRecords, kindRecords, afterRegister, firstCapabilities, fixedRecords, fresh}
 use Rattle.laws.proofs.Stores.{get-below, ascending-lower, put-first, puts-all, AscendingBefore, recordsBefore, recordBefore-present, puts-before}
+use Rattle.laws.proofs.NewRecords.{procedureRecords}
 use Rattle.laws.proofs.Slots.{fixed, inProcedure, atPlace, slot-less-region, slot-less-middle, slot-less-end}
 
 -- The 13 records: regions 02, 03 and 04; before them the list, region 01; before it the procedure's own, region 00.
@@ -30,7 +31,7 @@ listStore k ka = lengthSlot holds 1 ∷ placeSlot 1 holds k ∷ fixedStore k ka
 
 -- what is put for the procedure: a word of value zero, as that of Call(0,0), leaves no record
 abbrev ownRecords : (key address : ℕ) → List Record
-ownRecords k a = addressSlot k holds a ∷ indexSlot k holds 1 ∷ kindRecords k firstCapabilities kinds
+ownRecords k a = procedureRecords 1 k a firstCapabilities
 
 place-first : placeSlot 1 < kernelAddressSlot
 unfolding placeSlot kernelAddressSlot

@@ -16,6 +16,10 @@ pub mod Rows
 pub mod Records
 pub mod Places
 pub mod Procedures
+pub mod LastPlace
+pub mod RegisterRecords
+pub mod NewRecords
+pub mod SeriesRequests
 pub mod SoundDecides
 pub mod TableDecides
 pub mod Fresh
@@ -23,4 +27,3 @@ pub mod TableRecords
 pub mod Looked
 pub mod KindSound
 pub mod SoundTests
-pub mod KindLoops

@@ -2,7 +2,7 @@
 use Prim.Native.Nat.{ℕ, _≤_}
 use native.Mathlib.Omega.{arith}
 use mathlib.Core.Path.{_≡_, refl, sym, ap, _∙_}
-use mathlib.Core.Bool.{Bool, true, false, not, _&&_}
+use mathlib.Core.Bool.{Bool, true, false, not}
 use lib.Dec.{eqb}
 use borrow.Author.Tests.{eq-eqb, ne-eqb}
 use Rattle.rules.specs.Words.{Bytes, wordBytes, keyBytes, num}
@@ -13,8 +13,8 @@ use Rattle.rules.specs.Sound.{allOf}
 use Rattle.rules.specs.Messages.{seriesOf, malformed, keyWord, addressWord, requests}
 use Rattle.rules.specs.Validation.{passes as codePasses}
 use Rattle.rules.specs.Answers.{e4, x33, e9, e5, x77, e1, e8, codeNumber, outcome}
-use Rattle.rules.specs.Calls.{isZero, greatestList, indexOutOfRange, notCovering, contained, tests, tooMany, doRegister}
-use Rattle.rules.specs.Source.{OfType, refusedReply}
+use Rattle.rules.specs.Calls.{isZero, greatestList, contained, tests, tooMany, doRegister}
+use Rattle.rules.specs.Source.{refusedReply}
 use Rattle.rules.specs.declared.Reply.{Reply}
 use Rattle.laws.proofs.Numbers.{non-zero}
 use Rattle.words.specs.Words.{Holds}
@@ -22,15 +22,13 @@ use Rattle.listing.specs.Listings.{Listing}
 use Rattle.grants.specs.Grants.{Granted}
 use Rattle.grants.specs.declared.Grant.{Grant}
 use Rattle.results.specs.Results.{Gives}
-use Rattle.acting.proofs.Permission.{not-permitted, permitted}
 use Rattle.results.proofs.Rows.{refusal, refuses, passes, denied}
-use Rattle.acting.specs.Acting.{ActsOn}
-use Rattle.acting.proofs.Permission.{acts-on-key}
+use Rattle.acting.specs.Acting.{ActsOn, Permits}
+use Rattle.acting.proofs.Permission.{acts-on-key, listed-judged, not-permitted, permitted}
 use Rattle.registering.specs.Registering.{NamesProcedure, Judgeable, Appendable, onRoom, onRequests}
 
 -- the key word that a Register acts on
-pub acts-on-procedure : {d x : Bytes} → NamesProcedure d → Holds wordBytes x (keyWord d) → ActsOn 4 d x
-unfolding number
+pub acts-on-procedure : {d x : Bytes} → NamesProcedure d → Holds wordBytes x (keyWord d) → ActsOn (number register) d x
 acts-on-procedure n h = acts-on-key register refl (record { long = omega (arith, n .long); fits = n .keyFits }) h
 
 -- from the requests on
@@ -49,12 +47,9 @@ module _ (t d : Bytes) {m : Bool} (e : m ≡ tooMany (requests d)) where
     register-not-granted q f = rw (passes (sym e ∙ few), refuses (is-granted q)) (refusal t x33 f)
 
     module _ (granted : g .contained ≡ true) {key : Bytes} (k : Holds keyBytes key (keyWord d)) {l : Bool} (h : l ≡ listed (store t) (num key)) where
-      is-listed : {b : Bool} → l ≡ b → listed (store t) (keyWord d) ≡ b
-      is-listed q = ap (listed (store t)) (sym (k .number)) ∙ sym h ∙ q
-
       pub register-listed : l ≡ true → {r : Reply} → r ≡ refusedReply (codeNumber e1) → Gives (outcome t (onRequests (room t) (store t) d)) r t
       unfolding onRequests
-      register-listed q f = rw (passes (sym e ∙ few), passes (is-granted granted), refuses (is-listed q)) (refusal t e1 f)
+      register-listed q f = rw (passes (sym e ∙ few), passes (is-granted granted), refuses (listed-judged t k h q)) (refusal t e1 f)
 
       module _ (unlisted : l ≡ false) {used places : ℕ} (list : Listing t used places) where
         pub register-list-full : places ≡ greatestList → {r : Reply} → r ≡ refusedReply (codeNumber e8)
@@ -62,11 +57,11 @@ module _ (t d : Bytes) {m : Bool} (e : m ≡ tooMany (requests d)) where
         unfolding onRequests
         register-list-full q f =
             let full = eq-eqb (listLength (store t)) greatestList (sym (list .all) ∙ q) in
-            rw (passes (sym e ∙ few), passes (is-granted granted), passes (is-listed unlisted), refuses full) (refusal t e8 f)
+            rw (passes (sym e ∙ few), passes (is-granted granted), passes (listed-judged t k h unlisted), refuses full) (refusal t e8 f)
 
         pub appendable : Judgeable d → places ≤ greatestList → Appendable t places d
         appendable j short =
-            record { judged = j; few = sym e ∙ few; all = list .all; short = short; unlisted = is-listed unlisted }
+            record { judged = j; few = sym e ∙ few; all = list .all; short = short; unlisted = listed-judged t k h unlisted }
 
         pub register-rest : (places ≡ greatestList → ⊥) → {r : Reply} {t′ : Bytes} → Gives (outcome t (onRoom (room t) (store t) d (g .tests))) r t′
             → Gives (outcome t (onRequests (room t) (store t) d)) r t′
@@ -74,7 +69,7 @@ module _ (t d : Bytes) {m : Bool} (e : m ≡ tooMany (requests d)) where
         register-rest q {r} {t′} f =
             let space = ne-eqb (listLength (store t)) greatestList (λ z. q (list .all ∙ z)) in
             let counted = judged .tests granted in
-            rw (passes (sym e ∙ few), passes (is-granted granted), passes (is-listed unlisted), passes space) (rw counted at f)
+            rw (passes (sym e ∙ few), passes (is-granted granted), passes (listed-judged t k h unlisted), passes space) (rw counted at f)
 
 -- before the requests
 module _ (t d code mask : Bytes) {x : Bytes} (named : Holds wordBytes x (keyWord d)) {i : Bool} (e : i ≡ eqb (num x) 0) where
@@ -99,7 +94,7 @@ module _ (t d code mask : Bytes) {x : Bytes} (named : Holds wordBytes x (keyWord
     register-zero-address q f = rw (passes (zero-key key), refuses (zero-address q)) (refusal t e4 f)
 
     module _ (present : j ≡ false) {p : Bool}
-        (h : OfType (number register) (λ k. p ≡ (not (indexOutOfRange (store t) d k) && not (notCovering (store t) d k (num x))))) where
+        (h : Permits t d (number register) (num x) p) where
       pub register-not-covered : p ≡ false → {r : Reply} → r ≡ refusedReply (codeNumber x33) → row r t
       unfolding doRegister
       register-not-covered q f =

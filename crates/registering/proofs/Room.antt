@@ -8,7 +8,7 @@ use lib.Dec.{ltb}
 use lib.ListN.{length}
 use borrow.Author.Tests.{leb-false, lt-ltb, le-ltb}
 use Rattle.rules.specs.Words.{Bytes, wordBytes, keyBytes, addressBytes, num}
-use Rattle.rules.specs.Table.{Store, room, store, puts}
+use Rattle.rules.specs.Table.{recordSize, Store, room, store, puts}
 use Rattle.rules.specs.Capabilities.{kinds}
 use Rattle.rules.specs.Procedures.{listed}
 use Rattle.rules.specs.Sound.{IsKey, IsAddress}
@@ -19,11 +19,12 @@ use Rattle.rules.specs.Source.{refusedReply, replyOf}
 use Rattle.rules.specs.declared.Reply.{Reply}
 use Rattle.laws.proofs.TableDecides.{soundTable-good}
 use Rattle.laws.proofs.TableRecords.{formed}
-use Rattle.demands.proofs.Series.{requests-storable}
+use Rattle.laws.proofs.SeriesRequests.{requests-storable}
 use Rattle.words.specs.Words.{Holds}
 use Rattle.storing.specs.Storing.{Stored}
-use Rattle.appending.specs.Appending.{nonZero, firstRecords, AppendNeeds, Needed}
-use Rattle.appending.proofs.Added.{registered-length, first-length}
+use Rattle.counting.specs.Counting.{nonZero, Needed}
+use Rattle.appending.specs.Appending.{headRecords, AppendNeeds}
+use Rattle.appending.proofs.Added.{registered-length, head-length}
 use Rattle.results.specs.Results.{SoundWith, Gives}
 use Rattle.results.proofs.Rows.{refusal, changes, refuses, passes, ends}
 use Rattle.acting.proofs.Holder.{occupied}
@@ -53,10 +54,10 @@ module _ {t : Bytes} {used : ℕ} (g : SoundWith t used) {places : ℕ} (d : Byt
       (requests-storable d (a .few)) (a .unlisted) in
       omega (arith, longer, g .count)
 
-  first-fits : length (puts (store t) (firstRecords (suc places) (keyWord d) (addressWord d))) ≡ used + 3
-  first-fits =
+  head-fits : length (puts (store t) (headRecords (suc places) (keyWord d) (addressWord d))) ≡ used + 3
+  head-fits =
       let longer =
-      first-length (soundTable-good t (g .sound) .good) (is-key (a .judged)) (is-address (a .judged))
+      head-length (soundTable-good t (g .sound) .good) (is-key (a .judged)) (is-address (a .judged))
       (requests-storable d (a .few)) (a .unlisted) in
       rw (a .all) (omega (arith, longer, g .count))
 
@@ -71,14 +72,14 @@ module _ {t : Bytes} {used : ℕ} (g : SoundWith t used) {places : ℕ} (d : Byt
         let form = formed t (occupied g .form) in
         omega (arith, form .few, form .fits, g .count, q .small, a .judged .names .notLonger)
 
-    pub register-no-room : length t / 64 < used + 3 + n → (m : ℕ) {r : Reply} → r ≡ refusedReply (codeNumber e7)
+    pub register-no-room : length t / recordSize < used + 3 + n → (m : ℕ) {r : Reply} → r ≡ refusedReply (codeNumber e7)
         → Gives (outcome t (onRoom (room t) (store t) d m)) r t
     unfolding onRoom noRoom room
     register-no-room h m f =
-        let full : ltb (length t / 64) (length after) ≡ true = lt-ltb (length t / 64) (length after) (omega (arith, needed, h)) in
+        let full : ltb (length t / recordSize) (length after) ≡ true = lt-ltb (length t / recordSize) (length after) (omega (arith, needed, h)) in
         rw (refuses full) (refusal t e7 f)
 
-    module _ (h : used + 3 + n ≤ length t / 64) where
+    module _ (h : used + 3 + n ≤ length t / recordSize) where
       -- what is asked of the key and the address, in bytes
       pub append-needs : {key address : Bytes} → Holds keyBytes key (keyWord d) → Holds wordBytes address (addressWord d)
           → AppendNeeds t used places key address d
@@ -95,7 +96,7 @@ module _ {t : Bytes} {used : ℕ} (g : SoundWith t used) {places : ℕ} (d : Byt
             addressNonZero = rw (v .number) (a .judged .addressNonZero);
             wellFormed = a .judged .wellFormed;
             few = a .few;
-            fits = rw (k .number, v .number) (omega (arith, first-fits, q .is (keyWord d), h));
+            fits = rw (k .number, v .number) (omega (arith, head-fits, q .is (keyWord d), h));
           }
 
       pub register-done : {key address : Bytes} → Holds keyBytes key (keyWord d) → Holds wordBytes address (addressWord d)
@@ -103,5 +104,5 @@ module _ {t : Bytes} {used : ℕ} (g : SoundWith t used) {places : ℕ} (d : Byt
           → (m : ℕ) {r : Reply} → r ≡ replyOf (registered m) → Gives (outcome t (onRoom (room t) (store t) d m)) r t′
       unfolding onRoom noRoom room
       register-done k v s m f =
-          let space : ltb (length t / 64) (length after) ≡ false = le-ltb (length t / 64) (length after) (omega (arith, needed, h)) in
+          let space : ltb (length t / recordSize) (length after) ≡ false = le-ltb (length t / recordSize) (length after) (omega (arith, needed, h)) in
           rw (passes space, ends) (changes t _ _ f (rw (k .number, v .number) at (s .table)))

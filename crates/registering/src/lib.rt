@@ -19,7 +19,7 @@ fn append_if_room(t: &mut [u8], used: usize, places: usize, d: &[u8], tests: u64
     ensures { λ r. ⌜ Gives (outcome (now (t .entry)) (onRoom (room (now (t .entry))) (store (now (t .entry))) (now (d .entry)) tests)) r (now (t .exit)) ⌝ }
 {
     // A new procedure has a record for its place, its address and its index; the list length has one already.
-    let needed = used + 3 + appending::records_needed(d);
+    let needed = used + 3 + counting::records_needed(d);
     if t.len() / rules::RECORD_SIZE < needed {
         return Reply::refused(Refusal::NO_ROOM);
     }

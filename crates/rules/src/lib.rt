@@ -228,52 +228,58 @@ pub struct Numbers {
     pub codes: [u16; 17],
 }
 
+const SIZES: [usize; 13] = [
+    KEY_BYTES,
+    ADDRESS_BYTES,
+    WORD_BYTES,
+    RECORD_SIZE,
+    GREATEST_TABLE,
+    GREATEST_WORDS,
+    GREATEST_PREFIX,
+    GREATEST_COUNT,
+    GREATEST_MESSAGE,
+    PAYLOAD_AT,
+    SERIES_AT,
+    GREATEST_CODE,
+    GREATEST_LIST,
+];
+
+const TYPE_NUMBERS: [u8; 5] = [
+    Kind::CALL.0,
+    Kind::REGISTER.0,
+    Kind::DELETE.0,
+    Kind::SET_ENTRY.0,
+    Kind::WRITE.0,
+];
+
+const CODES: [u16; 17] = [
+    Refusal::WRONG_BYTES.0,
+    Refusal::UNSOUND.0,
+    Refusal::SHORT.0,
+    Refusal::MESSAGE_TOO_LONG.0,
+    Refusal::UNKNOWN_TYPE.0,
+    Refusal::LEADING_BYTES.0,
+    Refusal::ZERO.0,
+    Refusal::NOT_COVERED.0,
+    Refusal::CODE_FAILS.0,
+    Refusal::MALFORMED_SERIES.0,
+    Refusal::TOO_MANY.0,
+    Refusal::ALREADY_LISTED.0,
+    Refusal::IS_ENTRY.0,
+    Refusal::IS_CURRENT.0,
+    Refusal::NOT_LISTED.0,
+    Refusal::LIST_FULL.0,
+    Refusal::NO_ROOM.0,
+];
+
 // They are the numbers of specs/.
 pub fn named_numbers() -> Numbers
     ensures { λ r. ⌜ r ≡ ruleNumbers ⌝ }
 {
     Numbers {
-        sizes: [
-            KEY_BYTES,
-            ADDRESS_BYTES,
-            WORD_BYTES,
-            RECORD_SIZE,
-            GREATEST_TABLE,
-            GREATEST_WORDS,
-            GREATEST_PREFIX,
-            GREATEST_COUNT,
-            GREATEST_MESSAGE,
-            PAYLOAD_AT,
-            SERIES_AT,
-            GREATEST_CODE,
-            GREATEST_LIST,
-        ],
+        sizes: SIZES,
         mark: KERNEL_MARK,
-        types: [
-            Kind::CALL.0,
-            Kind::REGISTER.0,
-            Kind::DELETE.0,
-            Kind::SET_ENTRY.0,
-            Kind::WRITE.0,
-        ],
-        codes: [
-            Refusal::WRONG_BYTES.0,
-            Refusal::UNSOUND.0,
-            Refusal::SHORT.0,
-            Refusal::MESSAGE_TOO_LONG.0,
-            Refusal::UNKNOWN_TYPE.0,
-            Refusal::LEADING_BYTES.0,
-            Refusal::ZERO.0,
-            Refusal::NOT_COVERED.0,
-            Refusal::CODE_FAILS.0,
-            Refusal::MALFORMED_SERIES.0,
-            Refusal::TOO_MANY.0,
-            Refusal::ALREADY_LISTED.0,
-            Refusal::IS_ENTRY.0,
-            Refusal::IS_CURRENT.0,
-            Refusal::NOT_LISTED.0,
-            Refusal::LIST_FULL.0,
-            Refusal::NO_ROOM.0,
-        ],
+        types: TYPE_NUMBERS,
+        codes: CODES,
     }
 }

@@ -63,7 +63,7 @@ pub fn word_slot(procedure: &[u8], kind: rules::Kind, i: u8, k: u8) -> [u8; rule
 }
 
 // The slot of the list that has the given middle.
-pub fn list_slot(middle: &[u8]) -> [u8; rules::WORD_BYTES]
+fn list_slot(middle: &[u8]) -> [u8; rules::WORD_BYTES]
     requires { ⌜ length (now middle) ≡ keyBytes ⌝ }
     ensures { λ r. ⌜ KeyOf (slot 1 (num (now (middle .entry))) 0) r ⌝ }
 {

@@ -1,22 +1,25 @@
--- What is asked besides the list, and the whole: the tests in the rules' order, each read from its slot.
-use Prim.Native.Nat.{ℕ, _≤_, _<_, min}
+-- The list, the procedures and what is asked besides: together they are the walk, and the walk is the rules' test.
+use Prim.Native.Nat.{ℕ, _+_, _-_, _≤_, _<_, min}
 use native.Mathlib.Omega.{arith}
 use mathlib.Core.Path.{_≡_, refl, sym, ap, _∙_}
-use mathlib.Core.Bool.{Bool, true, false}
+use mathlib.Core.Bool.{Bool, true, false, true≢false}
 use lib.ListN.{length}
-use borrow.Author.Tests.{le-leb, lt-leb}
 use Rattle.rules.specs.Words.{Bytes, num}
 use Rattle.rules.specs.Table.{Store, get, store, recordForm}
 use Rattle.rules.specs.KernelStorage.{lengthSlot, kernelAddressSlot, currentSlot, entrySlot}
 use Rattle.rules.specs.Procedures.{listLength, kernelAddress, current, entryKey, listed}
-use Rattle.rules.specs.Sound.{allOf, allPlaces, isKey, isAddress, placeSound, recordBelongs, sound, soundTable}
-use Rattle.laws.proofs.Bools.{and-left}
+use Rattle.rules.specs.Sound.{isKey, isAddress, sound, soundTable}
+use Rattle.laws.proofs.Bools.{decide-false, and-left}
 use Rattle.laws.proofs.Procedures.{list-short}
 use Rattle.laws.proofs.TableDecides.{soundTable-good}
 use Rattle.laws.proofs.TableRecords.{formed}
-use Rattle.laws.proofs.SoundTests.{other-not-listed, longer-not-sound}
 use Rattle.words.specs.Words.{smallLimit}
 use Rattle.slots.specs.Slots.{KeyOf}
+use Rattle.finding.specs.Finding.{keysBelow}
+use Rattle.walks.specs.Walks.{beforeList, listForm, blocksForm, walked}
+use Rattle.walks.proofs.WalkDecides.{listed-key, sound-walked}
+use Rattle.lists.specs.Lists.{Laid}
+use Rattle.lists.proofs.LaidRows.{laid-room, is-laid}
 use Rattle.table.specs.Tables.{formOf}
 use Rattle.table.specs.declared.Form.{Form}
 use Rattle.table.specs.declared.Form.the-variants.{Used, Bad}
@@ -29,15 +32,15 @@ use Rattle.listing.specs.Listings.{Occupied, Listing}
 use Rattle.soundness.specs.Soundness.{SoundList, restSound, soundnessOf}
 use Rattle.listing.proofs.Lookups.{at-slot, word-key, few}
 
--- a key in a word, where every place of the list is sound
+-- a key in a word, where only a key is listed
 module _ {x : ℕ} {w : Bytes} (v : WordOf x w) {a : Bool} (e : a ≡ isKey (num w)) where
   pub key-listed : (s : Store) → a ≡ true → {part : Bytes} → KeyPart (num w) part → {r : Bool} → r ≡ listed s (num part) → r ≡ listed s x
   key-listed s q p d = d ∙ ap (listed s) (word-key v e q p)
 
-  -- where every place is sound, what is no key is not listed
   pub no-key-listed : {t : Bytes} {used places : ℕ} → SoundList t used places → a ≡ false → false ≡ listed (store t) x
   no-key-listed {t} l q =
-      sym (other-not-listed (store t) (rw (l .all) at (l .sound)) x (ap isKey (sym (v .number)) ∙ sym e ∙ q))
+      let no : isKey x ≡ false = ap isKey (sym (v .number)) ∙ sym e ∙ q in
+      sym (decide-false (listed (store t) x) (λ yes. true≢false (sym (l .keys x yes) ∙ no)))
 
 -- what is asked besides the list
 module _ (s : Store) {ofCurrent : Bytes} (k : KeyOf currentSlot ofCurrent) {a : Bool} (e : a ≡ listed s (get s (num ofCurrent))) where
@@ -60,53 +63,65 @@ module _ (s : Store) {ofCurrent : Bytes} (k : KeyOf currentSlot ofCurrent) {a : 
 
     module _ (z : b ≡ true) {ofAddress w : Bytes} (m : KeyOf kernelAddressSlot ofAddress) (v : WordOf (get s (num ofAddress)) w)
         {c : Bool} (g : c ≡ isAddress (num w)) where
-      address-is : {x : Bool} → c ≡ x → isAddress (kernelAddress s) ≡ x
+      address-is : isAddress (kernelAddress s) ≡ c
       unfolding kernelAddress
-      address-is y = ap isAddress (sym (at-slot s m v)) ∙ sym g ∙ y
+      address-is = ap isAddress (sym (at-slot s m v)) ∙ sym g
 
-      pub address-not : c ≡ false → false ≡ restSound s
+      pub address-if : c ≡ restSound s
       unfolding restSound
-      address-not y = rw (current-is q, entry-is z, address-is y)
+      address-if = rw (current-is q, entry-is z, address-is)
 
-      pub rest-if : c ≡ true → {r : Bool} → r ≡ allOf (recordBelongs s) s → r ≡ restSound s
-      unfolding restSound
-      rest-if y h = rw (current-is q, entry-is z, address-is y) h
-
--- the records of a table, by what `small` gives for the list length
+-- the list's length, by what `small` gives for it
 module _ {t : Bytes} {used : ℕ} (o : Occupied t used) {n : ℕ} (e : n ≡ min (get (store t) lengthSlot) smallLimit) where
   list-length : n ≡ min (listLength (store t)) smallLimit
   unfolding listLength
   list-length = e
 
-  pub list-empty : n < 1 → false ≡ sound (store t)
-  unfolding sound
-  list-empty h = rw (lt-leb 1 (listLength (store t)) (omega (arith, list-length)))
-
-  pub list-too-long : used < n → false ≡ sound (store t)
-  list-too-long h =
-      sym (longer-not-sound (store t) (formed t (o .form) .ascends) (omega (arith, list-length, o .count)))
-
-  pub listing : n ≤ used → Listing t used n
+  listing : n ≤ used → Listing t used n
   listing h = record { form = o .form; count = o .count; all = omega (arith, list-length, few o); short = h }
 
-  module _ (one : 1 ≤ n) (short : n ≤ used) {a : Bool} (f : a ≡ allPlaces (placeSound (store t)) n) where
-    some : 1 ≤ listLength (store t)
-    some = omega (arith, list-length)
+-- the records of a table: the list, then the procedures, then the rest
+module _ {t : Bytes} {used list : ℕ} (o : Occupied t used) {slot : Bytes} (k : KeyOf lengthSlot slot) (b : list ≡ keysBelow (store t) (num slot)) where
+  pub before-list : list ≡ beforeList (store t)
+  unfolding beforeList
+  before-list = b ∙ ap (keysBelow (store t)) (k .number)
 
-    places-are : {b : Bool} → a ≡ b → allPlaces (placeSound (store t)) (listLength (store t)) ≡ b
-    places-are q = ap (allPlaces (placeSound (store t))) (sym (listing short .all)) ∙ sym f ∙ q
+  is-walked : sound (store t) ≡ walked (store t)
+  is-walked = let f = formed t (o .form) in sound-walked (store t) (f .ascends) (f .words) (omega (arith, f .fits, f .few))
 
-    pub sound-list : a ≡ true → SoundList t used n
-    sound-list q =
-        record { form = o .form; count = o .count; all = listing short .all; short = short; sound = sym f ∙ q }
+  module _ {a : Bool} (e : a ≡ listForm (store t)) where
+    pub list-not : a ≡ false → false ≡ sound (store t)
+    unfolding walked
+    list-not q = sym (is-walked ∙ rw (sym e ∙ q))
 
-    pub place-unsound : a ≡ false → false ≡ sound (store t)
-    unfolding sound
-    place-unsound q = rw (le-leb 1 (listLength (store t)) some, places-are q)
+    module _ (q : a ≡ true) where
+      rows : listForm (store t) ≡ true
+      rows = sym e ∙ q
 
-    pub places-sound : a ≡ true → {r : Bool} → r ≡ restSound (store t) → r ≡ sound (store t)
-    unfolding sound restSound
-    places-sound q h = rw (le-leb 1 (listLength (store t)) some, places-are q) h
+      pub room : list + 4 < used
+      room = laid-room o before-list rows
+
+      pub laid : Laid t list (used - list - 4)
+      laid = is-laid o before-list rows
+
+      module _ {c : Bool} (f : c ≡ blocksForm (store t)) where
+        pub blocks-not : c ≡ false → false ≡ sound (store t)
+        unfolding walked
+        blocks-not z = sym (is-walked ∙ rw (rows, sym f ∙ z))
+
+        pub sound-list : c ≡ true → SoundList t used (used - list - 4)
+        sound-list z =
+            record {
+              form = o .form;
+              count = o .count;
+              all = laid .all;
+              short = omega arith;
+              keys = listed-key (store t) (formed t (o .form) .ascends) rows (sym f ∙ z);
+            }
+
+        pub rest-if : c ≡ true → {r : Bool} → r ≡ restSound (store t) → r ≡ sound (store t)
+        unfolding walked restSound
+        rest-if z h = h ∙ sym (is-walked ∙ rw (rows, sym f ∙ z))
 
 -- the whole
 module _ (t : Bytes) {r : Form} (e : r ≡ formOf t) where

@@ -6,21 +6,21 @@ use lib.ListN.{length}
 use Rattle.rules.specs.Words.{Bytes}
 use Rattle.rules.specs.Table.{Store, store, recordForm}
 use Rattle.rules.specs.Procedures.{listLength, kernelAddress, current, entryKey, listed}
-use Rattle.rules.specs.Sound.{allOf, allPlaces, isAddress, placeSound, recordBelongs, soundTable}
+use Rattle.rules.specs.Sound.{isKey, isAddress, soundTable}
 use Rattle.soundness.specs.declared.Soundness.{Soundness}
 use Rattle.soundness.specs.declared.Soundness.the-variants.{Sound, Unsound}
 
--- a table of the record form whose list has `places` places, all of them sound
+-- a table of the record form whose list has `places` places, where only a key is listed
 pub record SoundList (t : Bytes) (used places : ℕ) : Type 0 where
   pub form : recordForm t ≡ true
   pub count : used ≡ length (store t)
   pub all : places ≡ listLength (store t)
   pub short : places ≤ used
-  pub sound : allPlaces (placeSound (store t)) places ≡ true
+  pub keys : (p : ℕ) → listed (store t) p ≡ true → isKey p ≡ true
 
--- what `sound` asks besides the list
+-- what is asked besides the list and the procedures
 unfoldable pub restSound : Store → Bool
-restSound s = listed s (current s) && listed s (entryKey s) && isAddress (kernelAddress s) && allOf (recordBelongs s) s
+restSound s = listed s (current s) && listed s (entryKey s) && isAddress (kernelAddress s)
 
 -- how many records are occupied, if the table is sound
 unfoldable pub soundnessOf : Bytes → Soundness

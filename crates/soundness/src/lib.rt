@@ -1,4 +1,5 @@
-// Whether a table is sound: each clause of the rules' test, in its order, by lookups of single slots.
+// Whether a table is sound: its record form, then one walk over the records, from the list length on and from the first procedure
+// on; last, the slots that hold a listed key.
 ghost use mathlib.Core.Path.{_≡_};
 ghost use mathlib.Core.Bool.{true};
 ghost use lib.ListN.{length};
@@ -15,7 +16,7 @@ pub enum Soundness {
     Unsound,
 }
 
-// Whether a slot holds a listed key, where every place of the list is sound: then no other word is listed.
+// Whether a slot holds a listed key, where only a key is listed.
 fn holds_listed(t: &[u8], used: usize, places: usize, slot: &[u8]) -> bool
     requires { ⌜ SoundList (now t) used places ⌝ }
     requires { ⌜ length (now slot) ≡ wordBytes ⌝ }
@@ -29,7 +30,7 @@ fn holds_listed(t: &[u8], used: usize, places: usize, slot: &[u8]) -> bool
     }
 }
 
-// What soundness asks besides the list.
+// What soundness asks besides the list and the procedures.
 fn rest_sound(t: &[u8], used: usize, places: usize) -> bool
     requires { ⌜ SoundList (now t) used places ⌝ }
     ensures { λ r. ⌜ r ≡ restSound (store (now (t .entry))) ⌝ }
@@ -37,11 +38,7 @@ fn rest_sound(t: &[u8], used: usize, places: usize) -> bool
     if holds_listed(t, used, places, &slots::current_slot()) {
         if holds_listed(t, used, places, &slots::entry_slot()) {
             let slot = slots::kernel_address_slot();
-            if listing::is_address(&listing::value_at(t, used, &slot)) {
-                belonging::records_belong(t, used, places)
-            } else {
-                false
-            }
+            listing::is_address(&listing::value_at(t, used, &slot))
         } else {
             false
         }
@@ -50,21 +47,19 @@ fn rest_sound(t: &[u8], used: usize, places: usize) -> bool
     }
 }
 
-// Whether the records of a table are sound. A list that is longer than the table is not walked: no sound one is.
+// Whether the records of a table are sound.
 fn store_sound(t: &[u8], used: usize) -> bool
     requires { ⌜ Occupied (now t) used ⌝ }
     ensures { λ r. ⌜ r ≡ sound (store (now (t .entry))) ⌝ }
 {
-    let slot = slots::length_slot();
-    let places = words::small(&listing::value_at(t, used, &slot));
-    if places < 1 {
-        return false;
-    }
-    if used < places {
-        return false;
-    }
-    if places::places_sound(t, used, places) {
-        rest_sound(t, used, places)
+    let list = finding::keys_below(t, used, &slots::length_slot());
+    if lists::list_form(t, used, list) {
+        let places = used - list - lists::NO_PLACES;
+        if blocks::blocks_form(t, used, list, places) {
+            rest_sound(t, used, places)
+        } else {
+            false
+        }
     } else {
         false
     }
@@ -92,6 +87,6 @@ pub fn list_length(t: &[u8], used: usize) -> usize
     requires { ⌜ used ≡ length (store (now t)) ⌝ }
     ensures { λ r. ⌜ Listing (now (t .entry)) used r ⌝ }
 {
-    let slot = slots::length_slot();
-    words::small(&listing::value_at(t, used, &slot))
+    let length_slot = slots::length_slot();
+    words::small(&listing::value_at(t, used, &length_slot))
 }

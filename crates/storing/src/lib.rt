@@ -18,7 +18,8 @@ pub fn put(t: &mut [u8], used: usize, key: &[u8], value: &[u8]) -> usize
     ensures { λ r. ⌜ Stored (length (now (t .entry))) (now (t .exit)) r (put (store (now (t .entry))) (num (now (key .entry))) (num (now (value .entry)))) ⌝ }
 {
     let removes = words::is_zero(value);
-    match records::find(t, used, key) {
+    // Records are often put in ascending order, so the end is tried first.
+    match records::find_near(t, used, used, key) {
         Place::Has(i) => {
             if removes {
                 closing::close(t, i, i + 1, used);

@@ -6,7 +6,7 @@ use mathlib.Core.Path.{_≡_, ap, _∙_}
 use mathlib.Core.Logic.{_≢_}
 use lib.ListN.{length}
 use Rattle.rules.specs.Words.{Bytes, num}
-use Rattle.rules.specs.Table.{Store, get, put, room, store}
+use Rattle.rules.specs.Table.{recordSize, Store, get, put, room, store}
 use Rattle.rules.specs.KernelStorage.{indexSlot, lengthSlot, placeSlot}
 use Rattle.rules.specs.Procedures.{listLength, keyAt, InList}
 use Rattle.rules.specs.Sound.{IsKey}
@@ -32,7 +32,7 @@ module _ {t : Bytes} {used places freed : ℕ} (m : Movable t used places freed)
   moved = keyAt s (listLength s)
 
   good : Good (room t) s
-  good = soundTable-good t (m .sound) .good
+  good = soundTable-good t (m .table .sound) .good
 
   last-in : InList s (listLength s)
   last-in = record { first = good .sound .atLeastOne; last = omega arith }
@@ -41,7 +41,7 @@ module _ {t : Bytes} {used places freed : ℕ} (m : Movable t used places freed)
   key = good .sound .keys (listLength s) last-in
 
   before : Stored (length t) t used s
-  before = start t used (sound-occupied (m .sound) (m .count) .form) (m .count)
+  before = start t used (sound-occupied (m .table .sound) (m .table .count) .form) (m .table .count)
 
   -- what is present stays so when the last key is stored at the freed place, and when its index is
   abbrev keyMoved : Store
@@ -57,14 +57,14 @@ module _ {t : Bytes} {used places freed : ℕ} (m : Movable t used places freed)
       (λ z. omega (arith, m .inList .first)) (key-stays k present)
 
   -- the room for both stores, and for another length of the list
-  freed-room : 64 * length keyMoved ≤ length t
+  freed-room : recordSize * length keyMoved ≤ length t
   freed-room = room-for-present before (placeSlot freed) moved (place-present (good .sound) freed (m .inList))
 
-  index-room : {t′ : Bytes} {used′ : ℕ} → Stored (length t) t′ used′ keyMoved → 64 * length (put keyMoved (indexSlot moved) freed) ≤ length t
+  index-room : {t′ : Bytes} {used′ : ℕ} → Stored (length t) t′ used′ keyMoved → recordSize * length (put keyMoved (indexSlot moved) freed) ≤ length t
   index-room h = room-for-present h (indexSlot moved) freed (key-stays (indexSlot moved) (index-present (good .sound) (listLength s) last-in))
 
   pub length-room : {t′ : Bytes} {used′ : ℕ} → Stored (length t) t′ used′ (lastMoved s freed) → (n : ℕ)
-      → 64 * length (put (lastMoved s freed) lengthSlot n) ≤ length t
+      → recordSize * length (put (lastMoved s freed) lengthSlot n) ≤ length t
   length-room h n = room-for-present h lengthSlot n (stays lengthSlot (length-present (good .sound)))
 
   -- the first store, by what stands at the last place

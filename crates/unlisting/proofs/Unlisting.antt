@@ -36,7 +36,7 @@ module _ {t procedure : Bytes} {used : ℕ} (u : Unlistable t used procedure) wh
   p = num procedure
 
   good : Good (room t) s
-  good = soundTable-good t (u .sound) .good
+  good = soundTable-good t (u .table .sound) .good
 
   freed-in : InList s (indexOf s p)
   unfolding listed
@@ -48,7 +48,7 @@ module _ {t procedure : Bytes} {used : ℕ} (u : Unlistable t used procedure) wh
 
   module _ {places freed : ℕ} (l : Listing t used places) (q : freed ≡ indexOf s p) where
     pub movable : Movable t used places freed
-    movable = record { sound = u .sound; count = u .count; all = l .all; inList = rw q freed-in }
+    movable = record { table = u .table; all = l .all; inList = rw q freed-in }
 
     pub some-place : 1 ≤ places
     some-place = omega (arith, l .all, good .sound .atLeastOne)

@@ -7,19 +7,17 @@ use Rattle.rules.specs.Words.{Bytes, keyBytes, num}
 use Rattle.rules.specs.Table.{Store, put, store}
 use Rattle.rules.specs.KernelStorage.{indexSlot, placeSlot}
 use Rattle.rules.specs.Procedures.{listLength, keyAt, InList, listed}
-use Rattle.rules.specs.Sound.{soundTable}
+use Rattle.results.specs.Results.{SoundWith}
 
 -- a sound table with `used` occupied records, and a listed procedure's key
 pub record Unlistable (t : Bytes) (used : ℕ) (procedure : Bytes) : Type 0 where
-  pub sound : soundTable t ≡ true
-  pub count : used ≡ length (store t)
+  pub table : SoundWith t used
   pub key : length procedure ≡ keyBytes
   pub isListed : listed (store t) (num procedure) ≡ true
 
 -- a sound table whose list has `places` places, and one of them
 pub record Movable (t : Bytes) (used places freed : ℕ) : Type 0 where
-  pub sound : soundTable t ≡ true
-  pub count : used ≡ length (store t)
+  pub table : SoundWith t used
   pub all : places ≡ listLength (store t)
   pub inList : InList (store t) freed
 

@@ -1,11 +1,11 @@
 -- Each return is a place in the row; the entry slot of a sound table holds a key, so there is room for another.
 -- `returns`: 33; returns-2: 66 33; returns-3: done.
-use Rattle.rules.specs.KernelStorage.{entrySlot}
 use Rattle.rules.specs.Capabilities.{number}
 use Rattle.rules.specs.Messages.{keyWord}
 use Rattle.results.proofs.Rows.{negated}
 use Rattle.rules.specs.Answers.{codeNumber}
-use Rattle.calls.proofs.OnePut.{entry-room, put-ready, put-leaves}
+use Rattle.storing.proofs.Chain.{put-ready, put-after}
+use Rattle.calls.proofs.OnePut.{as-lent, entry-room}
 use Rattle.calls.proofs.SetEntryRow.{set-entry-not-covered, set-entry-not-listed, set-entry-done}
 use borrow.Author.Needs.{needs}
 use Rattle.calls.proofs.set_entry.Statement.{statement}
@@ -64,7 +64,7 @@ put-requires c κs =
     let slot = c .before .before .before in
     let start = slot .before .before .before .before .before .before .before .before .before .before in
     let g = start .pre .0 in
-    put-ready g entrySlot (keyWord (start .args .d .now)) (slot .entry-slot .ensures) (c .key-word .ensures) (entry-room g _)
+    put-ready (as-lent g) (slot .entry-slot .ensures) (c .key-word .ensures) (entry-room g (keyWord (start .args .d .now)))
 
 done-requires : tie.Need-done-requires
 done-requires c κs = search needs
@@ -84,7 +84,7 @@ returns-3 c =
     let start = judged .before .before .before .before .before in
     set-entry-done (start .args .t .now) (start .args .d .now) (judged .before .index-in-range .ensures) (negated (judged .if1 .left))
     (key-of .key-of .ensures) (if2 .before .is-listed .ensures) (negated (if2 .if2 .left))
-    (put-leaves (start .pre .0) entrySlot _ (slot .entry-slot .ensures) (key-word .key-word .ensures) (put .put .ensures))
+    (put-after (as-lent (start .pre .0)) (slot .entry-slot .ensures) (key-word .key-word .ensures) (put .put .ensures) .table)
     (c .done .ensures)
 
 pub set-entry-spec : {M : Type 1} → statement M

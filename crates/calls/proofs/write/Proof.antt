@@ -5,7 +5,8 @@ use Rattle.results.proofs.Rows.{negated}
 use Rattle.rules.specs.Answers.{codeNumber}
 use Rattle.acting.proofs.Holder.{occupied}
 use Rattle.acting.proofs.Permission.{acts-on-address}
-use Rattle.calls.proofs.OnePut.{put-ready, put-leaves}
+use Rattle.storing.proofs.Chain.{put-ready, put-after}
+use Rattle.calls.proofs.OnePut.{as-lent}
 use Rattle.calls.proofs.WriteRow.{write-not-covered, write-into-kernel, write-no-room, write-fits, write-done}
 use mathlib.Core.Path.{refl}
 use borrow.Author.Needs.{needs}
@@ -90,7 +91,7 @@ put-requires c κs =
     let needed = if3 .before in
     let value = needed .before .before .before .before .before .before .before in
     let start = value .before .before .before .before in
-    put-ready (start .pre .0) _ _ (value .before .write-address .ensures) (value .write-value .ensures)
+    put-ready (as-lent (start .pre .0)) (value .before .write-address .ensures) (value .write-value .ensures)
     (write-fits (start .args .t .now) (start .args .d .now) (value .before .write-address .ensures) (value .write-value .ensures)
     (needed .needed .ensures) (search needs))
 
@@ -113,7 +114,7 @@ returns-4 c =
     write-done (start .args .t .now) (start .args .d .now) (value .before .write-address .ensures) (value .write-value .ensures)
     (if1 .before .permits .ensures) (negated (if1 .if1 .left)) (if2 .before .in-kernel-storage .ensures) (if2 .if2 .left)
     (needed .needed .ensures) (search needs)
-    (put-leaves (start .pre .0) _ _ (value .before .write-address .ensures) (value .write-value .ensures) (put .put .ensures))
+    (put-after (as-lent (start .pre .0)) (value .before .write-address .ensures) (value .write-value .ensures) (put .put .ensures) .table)
     (c .done .ensures)
 
 pub write-spec : {M : Type 1} → statement M

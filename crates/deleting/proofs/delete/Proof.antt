@@ -108,8 +108,7 @@ unlist-requires c κs =
     let key-of = if3 .before .before .before in
     let start = key-of .before .before .before .before .before .before .before .before .before .before in
     record {
-      sound = start .pre .0 .sound;
-      count = start .pre .0 .count;
+      table = start .pre .0;
       key = key-of .key-of .ensures .size;
       isListed = sym (if3 .before .is-listed .ensures) ∙ negated (if3 .if3 .left);
     }

@@ -1,7 +1,9 @@
 -- Both are computed.
 use mathlib.Core.Path.{refl}
 use Rattle.rules.specs.Words.{word, bytesOf, bytesBefore}
-use Rattle.founding.specs.Founding.{wordsOf, firstSeries}
+use Rattle.rules.specs.Capabilities.{number}
+use Rattle.rules.specs.Calls.{firstCapabilities}
+use Rattle.founding.specs.Founding.{firstSeries}
 use borrow.Author.Needs.{needs}
 use Rattle.founding.proofs.first_series.Statement.{statement}
 use Rattle.founding.proofs.first_series.Tie as tie
@@ -15,50 +17,38 @@ add-d c = search needs
 array-write-d-2 : tie.Need-array-write-d-2
 array-write-d-2 c = search needs
 
-add-d-2 : tie.Need-add-d-2
-add-d-2 c = search needs
-
 array-write-d-3 : tie.Need-array-write-d-3
 array-write-d-3 c = search needs
 
-add-d-3 : tie.Need-add-d-3
-add-d-3 c = search needs
+add-d-2 : tie.Need-add-d-2
+add-d-2 c = search needs
 
 array-write-d-4 : tie.Need-array-write-d-4
 array-write-d-4 c = search needs
 
-add-d-4 : tie.Need-add-d-4
-add-d-4 c = search needs
-
 array-write-d-5 : tie.Need-array-write-d-5
 array-write-d-5 c = search needs
 
-add-d-5 : tie.Need-add-d-5
-add-d-5 c = search needs
+add-d-3 : tie.Need-add-d-3
+add-d-3 c = search needs
 
 array-write-d-6 : tie.Need-array-write-d-6
 array-write-d-6 c = search needs
 
-add-d-6 : tie.Need-add-d-6
-add-d-6 c = search needs
-
 array-write-d-7 : tie.Need-array-write-d-7
 array-write-d-7 c = search needs
 
-add-d-7 : tie.Need-add-d-7
-add-d-7 c = search needs
+add-d-4 : tie.Need-add-d-4
+add-d-4 c = search needs
 
 array-write-d-8 : tie.Need-array-write-d-8
 array-write-d-8 c = search needs
 
-add-d-8 : tie.Need-add-d-8
-add-d-8 c = search needs
-
 array-write-d-9 : tie.Need-array-write-d-9
 array-write-d-9 c = search needs
 
-add-d-9 : tie.Need-add-d-9
-add-d-9 c = search needs
+add-d-5 : tie.Need-add-d-5
+add-d-5 c = search needs
 
 array-write-d-10 : tie.Need-array-write-d-10
 array-write-d-10 c = search needs
@@ -66,8 +56,8 @@ array-write-d-10 c = search needs
 sub-d : tie.Need-sub-d
 sub-d c = search needs
 
-sub-copy : tie.Need-sub-copy
-sub-copy c = search needs
+sub-last : tie.Need-sub-last
+sub-last c = search needs
 
 part-d-start : tie.Need-part-d-start
 part-d-start c = search needs
@@ -82,7 +72,7 @@ copy-requires : tie.Need-copy-requires
 copy-requires c κs = search needs
 
 returns : tie.Need-returns
-unfolding firstSeries wordsOf word bytesOf bytesBefore
+unfolding firstSeries firstCapabilities number word bytesOf bytesBefore
 returns c = rw (c .before .copy .ensures) refl
 
 pub first-series-spec : {M : Type 1} → statement M
@@ -92,24 +82,20 @@ first-series-spec =
     array-write-d
     add-d
     array-write-d-2
-    add-d-2
     array-write-d-3
-    add-d-3
+    add-d-2
     array-write-d-4
-    add-d-4
     array-write-d-5
-    add-d-5
+    add-d-3
     array-write-d-6
-    add-d-6
     array-write-d-7
-    add-d-7
+    add-d-4
     array-write-d-8
-    add-d-8
     array-write-d-9
-    add-d-9
+    add-d-5
     array-write-d-10
     sub-d
-    sub-copy
+    sub-last
     part-d-start
     part-d-end
     slice-aggregate-copy

@@ -2,7 +2,7 @@
 -- `returns`: 66 ed; returns-2: 66 ef; returns-3: the value.
 use Rattle.rules.specs.Answers.{codeNumber}
 use Rattle.acting.proofs.Holder.{occupied}
-use Rattle.kernel.proofs.Lent.{not-sound, is-sound, sound-with}
+use Rattle.kernel.proofs.FirstChecks.{not-sound, is-sound, sound-with}
 use Rattle.kernel.proofs.LookRow.{look-wrong, look-unsound, look-done}
 use borrow.Author.Needs.{needs}
 use Rattle.kernel.proofs.look.Statement.{statement}

@@ -1,7 +1,7 @@
 -- Each return is a place in the row.
 -- `returns`: 66 ed; returns-2: 66 e0; returns-3: 66 ea; returns-4: 66 ef; returns-5: the message's row.
 use Rattle.rules.specs.Answers.{codeNumber}
-use Rattle.kernel.proofs.Lent.{not-sound, is-sound, sound-with}
+use Rattle.kernel.proofs.FirstChecks.{not-sound, is-sound, sound-with}
 use Rattle.kernel.proofs.SystemRow.{mask-wrong, call-unsound, call-empty, call-too-long, call-message}
 use borrow.Author.Needs.{needs}
 use Rattle.kernel.proofs.system_call.Statement.{statement}

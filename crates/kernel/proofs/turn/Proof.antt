@@ -1,7 +1,7 @@
 -- Each return is a place in the row.
 -- `returns`: 66 ed; returns-2: 66 ef; returns-3: the rest of the row.
 use Rattle.rules.specs.Answers.{codeNumber}
-use Rattle.kernel.proofs.Lent.{not-sound, is-sound, sound-with}
+use Rattle.kernel.proofs.FirstChecks.{not-sound, is-sound, sound-with}
 use Rattle.kernel.proofs.TurnRow.{turn-wrong, turn-unsound, turn-sound}
 use borrow.Author.Needs.{needs}
 use Rattle.kernel.proofs.turn.Statement.{statement}

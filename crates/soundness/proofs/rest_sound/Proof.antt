@@ -1,7 +1,7 @@
--- The current key, the entry key, the kernel address, then the records.
-use borrow.Author.Needs.{needs}
+-- The current key, the entry key, the kernel address.
 use Rattle.rules.specs.Table.{store}
-use Rattle.soundness.proofs.Whole.{current-not, entry-not, address-not, rest-if}
+use Rattle.soundness.proofs.Whole.{current-not, entry-not, address-if}
+use borrow.Author.Needs.{needs}
 use Rattle.soundness.proofs.rest_sound.Statement.{statement}
 use Rattle.soundness.proofs.rest_sound.Tie as tie
 
@@ -38,13 +38,9 @@ slice-aggregate-is-address c = search needs
 is-address-requires : tie.Need-is-address-requires
 is-address-requires c κs = search needs
 
-records-belong-requires : tie.Need-records-belong-requires
-records-belong-requires c κs = search needs
-
 returns : tie.Need-returns
 returns c =
-    let is-address = c .before .before in
-    let value-at = is-address .before .before in
+    let value-at = c .before .before in
     let kernel-address-slot = value-at .before .before in
     let if2 = kernel-address-slot .before in
     let holds-listed2 = if2 .before in
@@ -53,28 +49,12 @@ returns c =
     let holds-listed = if1 .before in
     let current-slot = holds-listed .before .before in
     let start = current-slot .before .before in
-    rest-if (store (start .args .t .now)) (current-slot .current-slot .ensures) (holds-listed .holds-listed .ensures) (if1 .if1 .taken)
+    address-if (store (start .args .t .now)) (current-slot .current-slot .ensures) (holds-listed .holds-listed .ensures) (if1 .if1 .taken)
     (entry-slot .entry-slot .ensures) (holds-listed2 .holds-listed2 .ensures) (if2 .if2 .taken)
-    (kernel-address-slot .kernel-address-slot .ensures) (value-at .value-at .ensures) (is-address .is-address .ensures)
-    (c .before .if3 .taken) (c .records-belong .ensures)
+    (kernel-address-slot .kernel-address-slot .ensures) (value-at .value-at .ensures) (c .is-address .ensures)
 
 returns-2 : tie.Need-returns-2
 returns-2 c =
-    let value-at = c .before .before .before in
-    let kernel-address-slot = value-at .before .before in
-    let if2 = kernel-address-slot .before in
-    let holds-listed2 = if2 .before in
-    let entry-slot = holds-listed2 .before .before in
-    let if1 = entry-slot .before in
-    let holds-listed = if1 .before in
-    let current-slot = holds-listed .before .before in
-    let start = current-slot .before .before in
-    address-not (store (start .args .t .now)) (current-slot .current-slot .ensures) (holds-listed .holds-listed .ensures)
-    (if1 .if1 .taken) (entry-slot .entry-slot .ensures) (holds-listed2 .holds-listed2 .ensures) (if2 .if2 .taken)
-    (kernel-address-slot .kernel-address-slot .ensures) (value-at .value-at .ensures) (c .before .is-address .ensures) (c .if3 .left)
-
-returns-3 : tie.Need-returns-3
-returns-3 c =
     let entry-slot = c .before .before .before in
     let if1 = entry-slot .before in
     let holds-listed = if1 .before in
@@ -83,8 +63,8 @@ returns-3 c =
     entry-not (store (start .args .t .now)) (current-slot .current-slot .ensures) (holds-listed .holds-listed .ensures)
     (if1 .if1 .taken) (entry-slot .entry-slot .ensures) (c .before .holds-listed2 .ensures) (c .if2 .left)
 
-returns-4 : tie.Need-returns-4
-returns-4 c =
+returns-3 : tie.Need-returns-3
+returns-3 c =
     let current-slot = c .before .before .before in
     let start = current-slot .before .before in
     current-not (store (start .args .t .now)) (current-slot .current-slot .ensures) (c .before .holds-listed .ensures) (c .if1 .left)
@@ -104,8 +84,6 @@ rest-sound-spec =
     value-at-requires
     slice-aggregate-is-address
     is-address-requires
-    records-belong-requires
     returns
     returns-2
-    returns-3
-    returns-4)
+    returns-3)

@@ -1,94 +1,93 @@
--- The list length is judged as a whole word, then the places, then the rest.
+-- The list, then the procedures, then the rest.
+use native.Mathlib.Omega.{arith}
+use Rattle.soundness.proofs.Whole.{before-list, list-not, room, laid, blocks-not, sound-list, rest-if}
 use borrow.Author.Needs.{needs}
-use Rattle.rules.specs.Table.{store}
-use Rattle.soundness.proofs.Whole.{list-empty, list-too-long, sound-list, place-unsound, places-sound}
-use Rattle.listing.proofs.Lookups.{small-at}
 use Rattle.soundness.proofs.store_sound.Statement.{statement}
 use Rattle.soundness.proofs.store_sound.Tie as tie
 
 length-slot-requires : tie.Need-length-slot-requires
 length-slot-requires c κs = search needs
 
-slice-aggregate-value-at : tie.Need-slice-aggregate-value-at
-slice-aggregate-value-at c = search needs
+slice-aggregate-keys-below : tie.Need-slice-aggregate-keys-below
+slice-aggregate-keys-below c = search needs
 
-value-at-requires : tie.Need-value-at-requires
-value-at-requires c κs = search needs
+keys-below-requires : tie.Need-keys-below-requires
+keys-below-requires c κs = search needs
 
-slice-aggregate-small : tie.Need-slice-aggregate-small
-slice-aggregate-small c = search needs
+list-form-requires : tie.Need-list-form-requires
+list-form-requires c κs =
+    let length-slot = c .before .before in
+    let s = length-slot .before .before in
+    (s .pre, before-list (s .pre) (length-slot .length-slot .ensures) (c .keys-below .ensures))
 
-small-requires : tie.Need-small-requires
-small-requires c κs = search needs
+sub-places : tie.Need-sub-places
+sub-places c =
+    let keys-below = c .before .before in
+    let length-slot = keys-below .before .before in
+    let s = length-slot .before .before in
+    omega (arith, room (s .pre) (length-slot .length-slot .ensures) (keys-below .keys-below .ensures) (c .before .list-form .ensures) (c .if1 .taken))
 
-returns : tie.Need-returns
-returns c =
-    let value-at = c .before .before .before in
-    let length-slot = value-at .before .before in
-    let start = length-slot .before .before in
-    list-empty (start .pre)
-    (small-at (store (start .args .t .now)) (length-slot .length-slot .ensures) (value-at .value-at .ensures) (c .before .small .ensures))
-    (search needs)
+sub-places-2 : tie.Need-sub-places-2
+sub-places-2 c =
+    let keys-below = c .before .before in
+    let length-slot = keys-below .before .before in
+    let s = length-slot .before .before in
+    omega (arith, room (s .pre) (length-slot .length-slot .ensures) (keys-below .keys-below .ensures) (c .before .list-form .ensures) (c .if1 .taken))
 
-returns-2 : tie.Need-returns-2
-returns-2 c =
-    let small = c .before .before in
-    let value-at = small .before .before in
-    let length-slot = value-at .before .before in
-    let start = length-slot .before .before in
-    list-too-long (start .pre)
-    (small-at (store (start .args .t .now)) (length-slot .length-slot .ensures) (value-at .value-at .ensures) (small .small .ensures))
-    (search needs)
-
-places-sound-requires : tie.Need-places-sound-requires
-places-sound-requires c κs = search needs
+blocks-form-requires : tie.Need-blocks-form-requires
+blocks-form-requires c κs =
+    let keys-below = c .before .before in
+    let length-slot = keys-below .before .before in
+    let s = length-slot .before .before in
+    (s .pre, laid (s .pre) (length-slot .length-slot .ensures) (keys-below .keys-below .ensures) (c .before .list-form .ensures) (c .if1 .taken))
 
 rest-sound-requires : tie.Need-rest-sound-requires
 rest-sound-requires c κs =
-    let small = c .before .before .before .before in
-    let value-at = small .before .before in
-    let length-slot = value-at .before .before in
-    let start = length-slot .before .before in
-    sound-list (start .pre)
-    (small-at (store (start .args .t .now)) (length-slot .length-slot .ensures) (value-at .value-at .ensures) (small .small .ensures))
-    (search needs) (search needs)
-    (c .before .places-sound .ensures) (c .if3 .taken)
+    let if1 = c .before .before in
+    let keys-below = if1 .before .before in
+    let length-slot = keys-below .before .before in
+    let s = length-slot .before .before in
+    sound-list (s .pre) (length-slot .length-slot .ensures) (keys-below .keys-below .ensures) (if1 .before .list-form .ensures) (if1 .if1 .taken)
+    (c .before .blocks-form .ensures) (c .if2 .taken)
+
+returns : tie.Need-returns
+returns c =
+    let if2 = c .before in
+    let if1 = if2 .before .before in
+    let keys-below = if1 .before .before in
+    let length-slot = keys-below .before .before in
+    let s = length-slot .before .before in
+    rest-if (s .pre) (length-slot .length-slot .ensures) (keys-below .keys-below .ensures) (if1 .before .list-form .ensures) (if1 .if1 .taken)
+    (if2 .before .blocks-form .ensures) (if2 .if2 .taken) (c .rest-sound .ensures)
+
+returns-2 : tie.Need-returns-2
+returns-2 c =
+    let if1 = c .before .before in
+    let keys-below = if1 .before .before in
+    let length-slot = keys-below .before .before in
+    let s = length-slot .before .before in
+    blocks-not (s .pre) (length-slot .length-slot .ensures) (keys-below .keys-below .ensures) (if1 .before .list-form .ensures) (if1 .if1 .taken)
+    (c .before .blocks-form .ensures) (c .if2 .left)
 
 returns-3 : tie.Need-returns-3
 returns-3 c =
-    let places-sound-call = c .before .before in
-    let small = places-sound-call .before .before .before in
-    let value-at = small .before .before in
-    let length-slot = value-at .before .before in
-    let start = length-slot .before .before in
-    places-sound (start .pre)
-    (small-at (store (start .args .t .now)) (length-slot .length-slot .ensures) (value-at .value-at .ensures) (small .small .ensures))
-    (search needs) (search needs)
-    (places-sound-call .places-sound .ensures) (c .before .if3 .taken) (c .rest-sound .ensures)
-
-returns-4 : tie.Need-returns-4
-returns-4 c =
-    let small = c .before .before .before .before in
-    let value-at = small .before .before in
-    let length-slot = value-at .before .before in
-    let start = length-slot .before .before in
-    place-unsound (start .pre)
-    (small-at (store (start .args .t .now)) (length-slot .length-slot .ensures) (value-at .value-at .ensures) (small .small .ensures))
-    (search needs) (search needs)
-    (c .before .places-sound .ensures) (c .if3 .left)
+    let keys-below = c .before .before in
+    let length-slot = keys-below .before .before in
+    let s = length-slot .before .before in
+    list-not (s .pre) (length-slot .length-slot .ensures) (keys-below .keys-below .ensures) (c .before .list-form .ensures) (c .if1 .left)
 
 pub store-sound-spec : {M : Type 1} → statement M
 store-sound-spec =
     tie.close
     (tie.spec
     length-slot-requires
-    slice-aggregate-value-at
-    value-at-requires
-    slice-aggregate-small
-    small-requires
+    slice-aggregate-keys-below
+    keys-below-requires
+    list-form-requires
+    sub-places
+    sub-places-2
+    blocks-form-requires
+    rest-sound-requires
     returns
     returns-2
-    places-sound-requires
-    rest-sound-requires
-    returns-3
-    returns-4)
+    returns-3)

@@ -11,8 +11,8 @@ use borrow.Author.Needs.{needs}
 use Rattle.storing.proofs.put.Statement.{statement}
 use Rattle.storing.proofs.put.Tie as tie
 
--- what is known after `find`, and at its two answers
-asked : (c : tie.After-find)
+-- what is known after `find_near`, and at its two answers
+asked : (c : tie.After-find-near)
     → (let a = c .before .before .before .before .before .before .args in Asked (a .t .now) (a .key .now) (a .value .now) (a .used))
 asked c =
     let known = c .before .before .before in
@@ -32,20 +32,20 @@ has : (c : tie.After-known-told)
 has c =
     let f = c .before .before .before in
     let start = f .before .before .before .before .before .before in
-    found (start .args .t .now) (num (start .args .key .now)) (search needs) (f .find .ensures) (c .before .i .given .1)
+    found (start .args .t .now) (num (start .args .key .now)) (search needs) (f .find-near .ensures) (c .before .i .given .1)
 
 gap : (c : tie.After-known-told2)
     → (let a = c .before .before .before .before .before .before .before .before .before .args in Absent (store (a .t .now)) (num (a .key .now)) (c .before .i2 .given .0 .0))
 gap c =
     let f = c .before .before .before in
     let start = f .before .before .before .before .before .before in
-    missed (start .args .t .now) (num (start .args .key .now)) (search needs) (f .find .ensures) (c .before .i2 .given .1)
+    missed (start .args .t .now) (num (start .args .key .now)) (search needs) (f .find-near .ensures) (c .before .i2 .given .1)
 
 is-zero-requires : tie.Need-is-zero-requires
 is-zero-requires c κs = search needs
 
-find-requires : tie.Need-find-requires
-find-requires c κs = search needs
+find-near-requires : tie.Need-find-near-requires
+find-near-requires c κs = search needs
 
 enum-known-i : tie.Need-enum-known-i
 enum-known-i c = search needs
@@ -115,7 +115,7 @@ put-spec =
     tie.close
     (tie.spec
     is-zero-requires
-    find-requires
+    find-near-requires
     enum-known-i
     add-close
     close-requires

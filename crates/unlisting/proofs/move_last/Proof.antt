@@ -14,7 +14,7 @@ slice-aggregate-value-at c = search needs
 value-at-requires : tie.Need-value-at-requires
 value-at-requires c κs =
     let start = c .before .before .before .before in
-    (sound-occupied (start .pre .sound) (start .pre .count), search needs)
+    (sound-occupied (start .pre .table .sound) (start .pre .table .count), search needs)
 
 place-slot-requires-2 : tie.Need-place-slot-requires-2
 place-slot-requires-2 c κs = search needs

@@ -16,7 +16,7 @@ slice-aggregate-value-at c = search needs
 value-at-requires : tie.Need-value-at-requires
 value-at-requires c κs =
     let start = c .before .before .before .before in
-    (sound-occupied (start .pre .sound) (start .pre .count), search needs)
+    (sound-occupied (start .pre .table .sound) (start .pre .table .count), search needs)
 
 slice-aggregate-small : tie.Need-slice-aggregate-small
 slice-aggregate-small c = search needs

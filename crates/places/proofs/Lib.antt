@@ -1,2 +1,0 @@
-pub mod Prefixes
-pub mod Places

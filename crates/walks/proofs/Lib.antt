@@ -1,0 +1,12 @@
+pub mod Counting
+pub mod Behind
+pub mod KeyRows
+pub mod Fronts
+pub mod ListForm
+pub mod Owned
+pub mod Indexes
+pub mod Steps
+pub mod Standing
+pub mod WalkTrue
+pub mod TrueWalk
+pub mod WalkDecides
