@@ -1,1 +1,4 @@
 pub mod Demanded
+pub mod ReadBack
+pub mod Inside
+pub mod Exported

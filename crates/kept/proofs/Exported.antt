@@ -1,0 +1,133 @@
+-- The exported functions, read back, are a kernel that meets the three demands: each call is refused or has the one kind of success
+-- that its row ends in, so a host that knows its call reads the defined answer, which is demand 2; and that meets the other two.
+use mathlib.Core.Path.{_≡_, refl, ap}
+use mathlib.Core.List.{List}
+use Rattle.rules.specs.Words.{Bytes, num, numAfter}
+use Rattle.rules.specs.Table.{room, store}
+use Rattle.rules.specs.Capabilities.{Kind, call, register, delete, setEntry, write}
+use Rattle.rules.specs.Messages.{Named, null, unknown, ofKind, named, typeOf, dataOf}
+use Rattle.rules.specs.Answers.{Refusal, ed, ef, e0, ea, aa, e6, e4, x33, e9, e5, x77, e1, e2, e3, x6633, e8, e7, refusals, codeNumber, codeBytes, Answer, refused, fields, Result, Check, judge, Outcome, outcome}
+use Rattle.rules.specs.Calls.{setUp, turn, look, systemCall, doKind, doNamed, doCall, doRegister, doDelete, doSetEntry, doWrite}
+use Rattle.rules.specs.Demands.{AnyCall, settingUp, turning, looking, calling, perform, Demand1, Demand2, Demand3}
+use Rattle.rules.specs.Source.{OwnPayload}
+use Rattle.laws.proofs.Rows.{judge-cases}
+use Rattle.demands.proofs.Demand1.{demand-1}
+use Rattle.demands.proofs.Demand2.{own-payload, set-up-payload, turn-payload, look-payload}
+use Rattle.demands.proofs.Demand3.{demand-3}
+use Rattle.kept.specs.Demanded.{refusalAmong, messageOf}
+use Rattle.replies.specs.Exports.{exported, Exports}
+use Rattle.kept.specs.Exported.{StructGiven, ExportedFunctions, KeepExports, successOfType, successTo, answerTo, readStruct, exportedKernel}
+use Rattle.kept.proofs.ReadBack.{read-back}
+
+-- a code is found by its bytes
+refusal-back : (c : Refusal) → refusalAmong refusals (num (codeBytes (codeNumber c))) ≡ c
+unfolding refusalAmong num numAfter codeNumber codeBytes
+refusal-back ed = refl
+refusal-back ef = refl
+refusal-back e0 = refl
+refusal-back ea = refl
+refusal-back aa = refl
+refusal-back e6 = refl
+refusal-back e4 = refl
+refusal-back x33 = refl
+refusal-back e9 = refl
+refusal-back e5 = refl
+refusal-back x77 = refl
+refusal-back e1 = refl
+refusal-back e2 = refl
+refusal-back e3 = refl
+refusal-back x6633 = refl
+refusal-back e8 = refl
+refusal-back e7 = refl
+
+-- the answer to a call is known by its fields
+Known : AnyCall → Answer → Type 0
+Known c a = answerTo c (fields a) ≡ a
+
+refused-known : (c : AnyCall) (code : Refusal) → Known c (refused code)
+unfolding Known answerTo fields
+refused-known c code = ap refused (refusal-back code)
+
+-- so of a row of checks its result decides
+row-known : (c : AnyCall) (t : Bytes) (cs : List Check) (r : Result) → Known c (outcome t r .answer) → Known c (outcome t (judge cs r) .answer)
+unfolding outcome
+row-known c t cs r h = judge-cases (λ r. Known c (outcome t r .answer)) cs r (λ d i e. refused-known c (d .code)) (λ ps. h)
+
+set-up-known : (t k a ka : Bytes) → Known (settingUp k a ka) (setUp t k a ka .answer)
+unfolding setUp Known answerTo successTo fields outcome
+set-up-known t k a ka = row-known (settingUp k a ka) t _ _ refl
+
+turn-known : (t k : Bytes) → Known (turning k) (turn t k .answer)
+unfolding turn Known answerTo successTo fields outcome
+turn-known t k = row-known (turning k) t _ _ refl
+
+look-known : (t k : Bytes) → Known (looking k) (look t k .answer)
+unfolding look Known answerTo successTo fields outcome
+look-known t k = row-known (looking k) t _ _ refl
+
+module _ (t m code mask : Bytes) where
+  abbrev asked : AnyCall
+  asked = calling m code mask
+
+  kind-known : (kind : Kind) → named (typeOf m) ≡ ofKind kind → Known asked (outcome t (doKind (room t) (store t) (dataOf m) code mask kind) .answer)
+  unfolding Known answerTo successTo successOfType fields outcome doKind doCall doRegister doDelete doSetEntry doWrite
+  kind-known call e = row-known asked t _ _ (rw e)
+  kind-known register e = row-known asked t _ _ (rw e)
+  kind-known delete e = row-known asked t _ _ (rw e)
+  kind-known setEntry e = row-known asked t _ _ (rw e)
+  kind-known write e = row-known asked t _ _ (rw e)
+
+  named-known : (n : Named) → named (typeOf m) ≡ n → Known asked (outcome t (doNamed (room t) (store t) (dataOf m) code mask n) .answer)
+  unfolding Known answerTo successTo successOfType fields outcome doNamed
+  named-known null e = rw e
+  named-known unknown e = refused-known asked aa
+  named-known (ofKind kind) e = row-known asked t _ _ (kind-known kind e)
+
+  call-known : Known asked (systemCall t m code mask .answer)
+  unfolding systemCall
+  call-known = row-known asked t _ _ (named-known (named (typeOf m)) refl)
+
+given-back : (c : AnyCall) {o : Outcome} {g : StructGiven} → OwnPayload (messageOf c) (o .answer) → Known c (o .answer)
+    → Exports o (g .reply) (g .table) → readStruct c g ≡ o
+unfolding readStruct Known
+given-back c {o} {g} own known e = rw (read-back (messageOf c) own e, known, e .table)
+
+module _ (f : ExportedFunctions) (kept : KeepExports f) where
+  pub exports-demand-2 : Demand2 (exportedKernel f)
+  unfolding perform
+  exports-demand-2 t (settingUp k a ka) bs lent =
+      given-back (settingUp k a ka) (set-up-payload t k a ka _) (set-up-known t k a ka) (kept .setUpKept t k a ka bs (lent .0) (lent .1) (lent .2))
+  exports-demand-2 t (turning k) bs lent = given-back (turning k) (turn-payload t k _) (turn-known t k) (kept .turnKept t k bs lent)
+  exports-demand-2 t (looking k) bs lent = given-back (looking k) (look-payload t k _) (look-known t k) (kept .lookKept t k bs lent)
+  exports-demand-2 t (calling m code mask) bs lent =
+      given-back (calling m code mask) (own-payload t m code mask) (call-known t m code mask)
+      (kept .systemCallKept t m code mask bs (lent .0) (lent .1) (lent .2))
+
+  pub exports-demand-1 : Demand1 (exportedKernel f)
+  exports-demand-1 = demand-1 (exportedKernel f) exports-demand-2
+
+  pub exports-demand-3 : Demand3 (exportedKernel f)
+  exports-demand-3 = demand-3 (exportedKernel f) exports-demand-2
+
+-- The promises can be kept: by the functions that answer what is defined.
+definedGiven : Outcome → StructGiven
+definedGiven o = record { reply = exported (o .answer); table = o .table }
+
+pub definedExports : ExportedFunctions
+definedExports =
+    record {
+      setUpGives = λ t k a ka. definedGiven (setUp t k a ka);
+      turnGives = λ t k. definedGiven (turn t k);
+      lookGives = λ t k. definedGiven (look t k);
+      systemCallGives = λ t m code mask. definedGiven (systemCall t m code mask);
+    }
+
+pub exports-kept : KeepExports definedExports
+unfolding definedExports definedGiven
+exports-kept =
+    record {
+      setUpKept = λ t k a ka bs ks hs kas. record { reply = refl; table = refl };
+      turnKept = λ t k bs ks. record { reply = refl; table = refl };
+      lookKept = λ t k bs ks. record { reply = refl; table = refl };
+      systemCallKept = λ t m code mask bs ms cs ks. record { reply = refl; table = refl };
+    }
