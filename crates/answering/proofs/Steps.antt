@@ -17,7 +17,7 @@ use Rattle.rules.specs.declared.Answer.the-variants.{Refused, Done, Called, Reg
 use Rattle.rules.specs.declared.Reply.{Reply}
 use Rattle.results.specs.Results.{Gives}
 use Rattle.demands.proofs.Demand2.{own-payload}
-use Rattle.kernel.specs.Promises.{PayloadPromise}
+use Rattle.payloads.specs.Payloads.{PayloadPromise}
 use Rattle.digits.specs.Decoding.{said, Decodes}
 use Rattle.digits.specs.declared.Line.{Line}
 use Rattle.digits.specs.declared.Line.the-variants.{Message, Other}

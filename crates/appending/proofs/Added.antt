@@ -1,50 +1,27 @@
 -- How many records a registration adds, for a key that is not listed in a sound store. Of its records only the list's length is
 -- present before; the others have different keys, and each whose value is not zero is one record more.
-use Prim.Native.Nat.{ℕ, zero, suc, _+_, _-_, _^_, _≤_, _<_}
+use Prim.Native.Nat.{ℕ, suc, _+_, _-_, _^_}
 use native.Mathlib.Omega.{arith}
 use mathlib.Core.Path.{_≡_, sym, ap, _∙_}
 use mathlib.Core.List.{List, [], _∷_}
 use mathlib.Core.Bool.{false, true≢false}
 use lib.ListN.{length}
-use Rattle.rules.specs.Words.{Every}
-use Rattle.rules.specs.Table.{Store, Record, _holds_, get, put, puts, recordBefore, Ascending}
+use Rattle.rules.specs.Table.{Store, Record, _holds_, get, put, puts, Ascending}
 use Rattle.rules.specs.KernelStorage.{slot, addressSlot, lengthSlot, placeSlot}
 use Rattle.rules.specs.Capabilities.{kinds}
 use Rattle.rules.specs.Procedures.{listLength, listed}
 use Rattle.rules.specs.Sound.{IsKey, IsAddress}
 use Rattle.rules.specs.Messages.{Request}
 use Rattle.rules.specs.Calls.{kindRecords, afterRegister}
-use Rattle.laws.proofs.Stores.{put-ascending, get-put-other, put-no-longer, put-no-shorter, put-absent, Misses}
+use Rattle.laws.proofs.Stores.{put-ascending, get-put-other, put-no-longer, put-no-shorter, put-absent}
 use Rattle.laws.proofs.Records.{Apart, rising-each}
 use Rattle.laws.proofs.Procedures.{Good, bodyOf, listed-here, nothing-stored, nothing-behind}
 use Rattle.laws.proofs.RegisterRecords.{Storable, Registration, slot-after}
 use Rattle.laws.proofs.NewRecords.{procedureRecords, own-rises, apart}
-use Rattle.counting.specs.Counting.{takenBy, nonZero}
-use Rattle.counting.proofs.OneValue.{taken-none, taken-one}
-use Rattle.appending.specs.Appending.{ownRecords, headRecords}
-
--- Records whose keys are absent and stand only once.
-recordBefore-taken : (k v : ℕ) (s : Store) → length (recordBefore k v s) ≡ length s + takenBy v
-unfolding recordBefore
-recordBefore-taken k zero s = omega (arith, taken-none)
-recordBefore-taken k (suc v) s = omega (arith, taken-one (suc v) (omega arith))
-
-abbrev Absent : Store → List Record → Type 0
-Absent s rs = Every (λ r. get s (r .key) ≡ 0) rs
-
--- they are still absent once another key is stored
-still-absent : (s : Store) (k v : ℕ) (rs : List Record) → Misses k rs → Absent s rs → Absent (put s k v) rs
-still-absent s k v [] m h = tt
-still-absent s k v (r ∷ rs) m h =
-    (get-put-other s k v (r .key) (λ q. m .0 (sym q)) ∙ h .0, still-absent s k v rs (m .1) (h .1))
-
-puts-added : (s : Store) (rs : List Record) → Ascending 0 s → Apart rs → Absent s rs → length (puts s rs) ≡ length s + nonZero rs
-unfolding puts nonZero
-puts-added s [] a apart h = omega arith
-puts-added s (r ∷ rs) a apart h =
-    let rest = puts-added (put s (r .key) (r .value)) rs (put-ascending 0 s (r .key) (r .value) (omega arith) a) (apart .1)
-    (still-absent s (r .key) (r .value) rs (apart .0) (h .1)) in
-    omega (arith, rest, put-absent 0 s (r .key) (r .value) a (h .0), recordBefore-taken (r .key) (r .value) s)
+use Rattle.counting.specs.Counting.{nonZero}
+use Rattle.counting.proofs.OneValue.{taken-one}
+use Rattle.appending.specs.Appending.{placeRecords, NoneOf}
+use Rattle.appending.proofs.Adding.{recordBefore-taken, Absent, still-absent, puts-added}
 
 module _ {n : ℕ} {s : Store} {p a : ℕ} {rs : List Request} (g : Good n s) (isKey : IsKey p) (isAddress : IsAddress a)
     (storable : Storable rs) (unlisted : listed s p ≡ false) where
@@ -65,13 +42,14 @@ module _ {n : ℕ} {s : Store} {p a : ℕ} {rs : List Request} (g : Good n s) (i
   abbrev own : List Record
   own = procedureRecords (suc N) p a rs
 
+  -- it has no record before
+  pub none-of : NoneOf p s
+  none-of k from below =
+      let here : k ≡ slot 0 p (k - addressSlot p) = omega (arith, slot-after p (k - addressSlot p)) in
+      ap (get s) here ∙ nothing-stored g p (isKey .fits) (new .unlisted) (k - addressSlot p) (omega arith)
+
   own-absent : Absent s own
-  own-absent = rising-each (λ k. get s k ≡ 0) (addressSlot p) (addressSlot p + 2 ^ 24) own (own-rises new) absent
-    where
-      absent : (k : ℕ) → addressSlot p ≤ k → k < addressSlot p + 2 ^ 24 → get s k ≡ 0
-      absent k from below =
-          let here : k ≡ slot 0 p (k - addressSlot p) = omega (arith, slot-after p (k - addressSlot p)) in
-          ap (get s) here ∙ nothing-stored g p (isKey .fits) (new .unlisted) (k - addressSlot p) (omega arith)
+  own-absent = rising-each (λ k. get s k ≡ 0) (addressSlot p) (addressSlot p + 2 ^ 24) own (own-rises new) none-of
 
   -- the key's place is one record more, the list's length is present, and then come records of the procedure
   behind : (more : List Record) → Apart (placeSlot (suc N) holds p ∷ lengthSlot holds suc N ∷ more) → Absent s more
@@ -115,18 +93,7 @@ module _ {n : ℕ} {s : Store} {p a : ℕ} {rs : List Request} (g : Good n s) (i
   registered-length =
       omega (arith, behind own (apart new) own-absent, taken-one a (isAddress .nonZero), taken-one (suc N) (omega arith))
 
-  -- the head records by themselves: what `append` asks room for
-  pub head-length : length (puts s (headRecords (suc N) p a)) ≡ length s + 3
+  -- the records of the list by themselves
+  pub place-length : length (puts s (placeRecords (suc N) p)) ≡ length s + 1
   unfolding nonZero
-  head-length =
-      let alone = apart new in
-      let two : Apart (headRecords (suc N) p a) = (
-        (alone .0 .0, (alone .0 .1 .0, (alone .0 .1 .1 .0, tt))),
-        ((alone .1 .0 .0, (alone .1 .0 .1 .0, tt)), ((alone .1 .1 .0 .0, tt), (tt, tt))),
-      ) in
-      omega (
-        arith,
-        behind (ownRecords (suc N) p a) two (own-absent .0, (own-absent .1 .0, tt)),
-        taken-one a (isAddress .nonZero),
-        taken-one (suc N) (omega arith),
-      )
+  place-length = omega (arith, behind [] ((apart new .0 .0, tt), (tt, tt)) tt)

@@ -1,21 +1,25 @@
--- The whole registration: its head records, whose values are not zero, and then those of the capabilities.
-use Prim.Native.Nat.{ℕ, suc, _+_}
+-- The whole registration: the key's place and the list's length, and then the records of the procedure, which has none yet.
+use Prim.Native.Nat.{ℕ, suc, _+_, _^_, _≤_, _<_}
 use native.Mathlib.Omega.{arith}
 use native.Mathlib.Numerals.{add-one}
-use mathlib.Core.Path.{refl}
-use mathlib.Core.List.{List, _++_}
+use mathlib.Core.Path.{ap, _∙_}
 use lib.ListN.{length}
 use Rattle.rules.specs.Words.{Bytes, num}
-use Rattle.rules.specs.Table.{Record, puts, room, store}
-use Rattle.rules.specs.Capabilities.{kinds}
+use Rattle.rules.specs.Table.{Store, get, puts, room, store}
+use Rattle.rules.specs.KernelStorage.{addressSlot, lengthSlot, placeSlot}
 use Rattle.rules.specs.Messages.{requests}
-use Rattle.rules.specs.Calls.{kindRecords, afterRegister}
+use Rattle.rules.specs.Calls.{afterRegister}
+use Rattle.laws.proofs.Stores.{Misses, get-puts-other}
+use Rattle.laws.proofs.NewRecords.{own-below}
 use Rattle.storing.specs.Storing.{Stored}
-use Rattle.appending.specs.Appending.{Roomy, Takes, placeRecords, ownRecords, headRecords, KindsNeeds, AppendNeeds}
-use Rattle.appending.proofs.Room.{roomy-both, roomy-within, roomy-after}
-use Rattle.appending.proofs.Left.{Left, left-takes, left-after, left-whole}
+use Rattle.storing.proofs.Chain.{counted}
+use Rattle.capability_records.specs.CapabilityRecords.{Takes}
+use Rattle.procedure_records.specs.ProcedureRecords.{procedureRecords}
+use Rattle.appending.specs.Appending.{placeRecords, NewNeeds, AppendNeeds}
+use Rattle.appending.proofs.Room.{roomy-after}
 
-module _ {t : Bytes} {used places : ℕ} {procedure address d : Bytes} (need : AppendNeeds t used places procedure address d) where
+module _ {t : Bytes} {used places : ℕ} {procedure address d : Bytes} {needed : ℕ}
+    (need : AppendNeeds t used places procedure address d needed) where
   abbrev p : ℕ
   p = num procedure
 
@@ -25,42 +29,46 @@ module _ {t : Bytes} {used places : ℕ} {procedure address d : Bytes} (need : A
   abbrev place : ℕ
   place = places + 1
 
-  abbrev ofKinds : List Record
-  ofKinds = kindRecords p (requests d) kinds
-
-  roomy : Roomy (room t) (store t) (headRecords (suc places) p a ++ ofKinds)
-  roomy =
-      roomy-both (room t) (store t) (headRecords (suc places) p a) ofKinds
-      (roomy-after (room t) (store t) (headRecords (suc places) p a)
-      (need .keyNonZero, (omega arith, (need .addressNonZero, (omega arith, tt)))) (omega (arith, need .fits)))
-      (roomy-within (room t) (puts (store t) (headRecords (suc places) p a)) ofKinds (need .fits))
-
-  start : Left (length t) t used (headRecords place p a ++ ofKinds) (afterRegister (store t) p a (requests d))
-  unfolding afterRegister
-  start =
+  pub place-takes : Takes t used (placeRecords place p)
+  place-takes =
       record {
-        long = refl;
-        takes = record { form = need .form; count = need .count; roomy = rw add-one roomy };
-        reaches = rw (add-one, need .listed);
+        form = need .form;
+        count = need .count;
+        roomy =
+            rw add-one
+            (roomy-after (room t) (store t) (placeRecords (suc places) p) (need .isKey .nonZero, (omega arith, tt)) (omega (arith, need .fits)));
       }
 
-  pub place-takes : Takes t used (placeRecords place p)
-  place-takes = left-takes start (placeRecords place p) (ownRecords place p a ++ ofKinds) refl
+  -- the list's slots are none of the procedure's
+  misses : (k : ℕ) → addressSlot p ≤ k → k < addressSlot p + 2 ^ 24 → Misses k (placeRecords place p)
+  unfolding placeSlot lengthSlot
+  misses k from below =
+      let first = own-below p (need .isKey .fits) k from below 1 place 0 (omega arith) in
+      let second = own-below p (need .isKey .fits) k from below 1 0 0 (omega arith) in
+      (λ q. omega (arith, first, q), (λ q. omega (arith, second, q), tt))
 
   module _ {t₁ : Bytes} {listed : ℕ} (s : Stored (length t) t₁ listed (puts (store t) (placeRecords place p))) where
-    behind-place : Left (length t) t₁ listed (ownRecords place p a ++ ofKinds) (afterRegister (store t) p a (requests d))
-    behind-place = left-after start (placeRecords place p) (ownRecords place p a ++ ofKinds) refl s
+    pub new-needs : NewNeeds t₁ listed place procedure address d needed
+    unfolding room
+    new-needs =
+        record {
+          form = s .form;
+          count = counted s;
+          key = need .key;
+          word = need .word;
+          placeNonZero = omega arith;
+          addressNonZero = need .addressNonZero;
+          wellFormed = need .wellFormed;
+          few = need .few;
+          none = λ k from below.
+              ap (λ (x : Store). get x k) (s .stored)
+              ∙ get-puts-other (store t) (placeRecords place p) k (misses k from below)
+              ∙ need .none k from below;
+          counted = need .counted;
+          fits = rw (s .stored, s .long, add-one) (need .fits);
+        }
 
-    pub own-takes : Takes t₁ listed (ownRecords place p a)
-    own-takes = left-takes behind-place (ownRecords place p a) ofKinds refl
-
-    module _ {t₂ : Bytes} {named : ℕ} (s₂ : Stored (length t₁) t₂ named (puts (store t₁) (ownRecords place p a))) where
-      behind-own : Left (length t) t₂ named ofKinds (afterRegister (store t) p a (requests d))
-      behind-own = left-after behind-place (ownRecords place p a) ofKinds refl s₂
-
-      pub kinds-needs : KindsNeeds t₂ named procedure d
-      kinds-needs = record { key = need .key; wellFormed = need .wellFormed; few = need .few; takes = behind-own .takes }
-
-      pub appended : {t₃ : Bytes} {r : ℕ} → Stored (length t₂) t₃ r (puts (store t₂) ofKinds)
-          → Stored (length t) t₃ r (afterRegister (store t) p a (requests d))
-      appended s₃ = left-whole behind-own s₃
+    pub appended : {t₂ : Bytes} {r : ℕ} → Stored (length t₁) t₂ r (puts (store t₁) (procedureRecords place p a (requests d)))
+        → Stored (length t) t₂ r (afterRegister (store t) p a (requests d))
+    unfolding afterRegister puts
+    appended s₂ = rw (← need .listed, ← add-one) (rw (s .stored, s .long) at s₂)

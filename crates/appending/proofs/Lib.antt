@@ -1,7 +1,5 @@
 pub mod Room
-pub mod Left
-pub mod CapabilityWords
-pub mod Requested
-pub mod AllTypes
+pub mod Adding
+pub mod Between
 pub mod First
 pub mod Added

@@ -2,35 +2,20 @@
 -- a value that is not zero takes none away, so what such stores leave is never less than what they had on the way.
 use Prim.Native.Nat.{ℕ, zero, suc, _+_, _≤_}
 use native.Mathlib.Omega.{arith}
-use mathlib.Core.List.{List, [], _∷_, _++_}
+use mathlib.Core.List.{List, [], _∷_}
 use lib.ListN.{length}
 use Rattle.rules.specs.Words.{Every}
 use Rattle.rules.specs.Table.{Store, Record, put, puts}
 use Rattle.laws.proofs.Stores.{put-length, put-zero-length, put-no-shorter}
 use Rattle.counting.specs.Counting.{takenBy, nonZero}
 use Rattle.counting.proofs.OneValue.{taken-one}
-use Rattle.appending.specs.Appending.{Roomy}
+use Rattle.capability_records.specs.CapabilityRecords.{Roomy}
 
 put-taken : (s : Store) (k v : ℕ) → length (put s k v) ≤ length s + takenBy v
 put-taken s k zero = omega (arith, put-zero-length s k)
 put-taken s k (suc v) = omega (arith, put-length s k (suc v), taken-one (suc v) (omega arith))
 
 module _ (rooms : ℕ) where
-  -- the first records of a list, then the others
-  pub roomy-front : (s : Store) (a b : List Record) → Roomy rooms s (a ++ b) → Roomy rooms s a
-  roomy-front s [] b h = tt
-  roomy-front s (r ∷ a) b h = (h .0, roomy-front (put s (r .key) (r .value)) a b (h .1))
-
-  pub roomy-back : (s : Store) (a b : List Record) → Roomy rooms s (a ++ b) → Roomy rooms (puts s a) b
-  unfolding puts
-  roomy-back s [] b h = h
-  roomy-back s (r ∷ a) b h = roomy-back (put s (r .key) (r .value)) a b (h .1)
-
-  pub roomy-both : (s : Store) (a b : List Record) → Roomy rooms s a → Roomy rooms (puts s a) b → Roomy rooms s (a ++ b)
-  unfolding puts
-  roomy-both s [] b h l = l
-  roomy-both s (r ∷ a) b h l = (h .0, roomy-both (put s (r .key) (r .value)) a b (h .1) l)
-
   -- room for every record that is not zero
   pub roomy-within : (s : Store) (rs : List Record) → length s + nonZero rs ≤ rooms → Roomy rooms s rs
   unfolding nonZero

@@ -11,7 +11,7 @@ use Rattle.rules.specs.Source.{OwnPayload, refusedReply, replyOf, fieldsOf}
 use Rattle.rules.specs.declared.Reply.{Reply as KernelReply}
 use Rattle.rules.proofs.Source.{reply-fields}
 use Rattle.results.specs.Results.{Gives}
-use Rattle.kernel.specs.Promises.{PayloadPromise}
+use Rattle.payloads.specs.Payloads.{PayloadPromise}
 use Rattle.replies.specs.declared.Reply.{Reply}
 use Rattle.replies.specs.Exports.{padded, placeOf, exported, Exports}
 use Rattle.replies.specs.Parts.{structOf}

@@ -13,7 +13,7 @@ pub fn close(t: &mut [u8], i: usize, j: usize, used: usize)
     let at = rules::RECORD_SIZE * i;
     let gap = rules::RECORD_SIZE * j - at;
     let end = rules::RECORD_SIZE * used;
-    moves::shift_left(&mut t[at..end], gap);
+    tails::shift_left(&mut t[at..end], gap);
     let last = end - gap;
     moves::clear(&mut t[last..end]);
 }

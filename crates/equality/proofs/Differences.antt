@@ -12,7 +12,7 @@ use Rattle.rules.specs.Words.{Bytes, num, numAfter}
 use Rattle.laws.proofs.Tests.{eqb-same}
 use Rattle.laws.proofs.Numerals.{num-suc}
 
-or-zero : (a b : ℕ) → bitOr a b ≡ 0 → (a ≡ 0) × (b ≡ 0)
+pub or-zero : (a b : ℕ) → bitOr a b ≡ 0 → (a ≡ 0) × (b ≡ 0)
 or-zero a b q = let h = or-add-and a b in let l = and-le-l a b in let r = and-le-r a b in (omega arith, omega arith)
 
 xor-zero : (a b : ℕ) → bitXor a b ≡ 0 → a ≡ b

@@ -7,13 +7,14 @@ use mathlib.Core.List.{_∷_}
 use mathlib.Core.Bool.{true, false}
 use lib.Dec.{eqb, ltb}
 use lib.ListN.{length, take, drop, replicate, length-take, length-drop}
-use borrow.Author.Tests.{eqb-true, eqb-false, ltb-true, ltb-false}
+use borrow.Author.Tests.{eqb-true, eq-eqb, ltb-true, ltb-false, lt-ltb}
 use Rattle.rules.specs.Words.{Bytes, AllBytes, wordAt, word, bytesOf, bytesBefore}
 use Rattle.rules.specs.Table.{Record, _holds_, Store, get, Ascending, store, recordForm}
+use Rattle.laws.proofs.Bools.{and-left, and-right, and-both}
 use Rattle.laws.proofs.TableRecords.{record-at, formed, formed-within, formed-bytes}
 use Rattle.laws.proofs.Numerals.{word-num}
 use Rattle.laws.proofs.Words.{take-bytes, drop-bytes}
-use Rattle.finding.specs.Finding.{keysBelow, placeOf}
+use Rattle.finding.specs.Finding.{keysBelow, placeOf, hasKey}
 use Rattle.finding.specs.declared.Place.{Place}
 use Rattle.finding.specs.declared.Place.the-variants.{Has, Gap}
 use Rattle.finding.proofs.Places.{below-length, place-after, place-before, Present, Absent, Standing, present, absent, standing, place-has, place-gap}
@@ -77,25 +78,29 @@ module _ (t : Bytes) (k i : ℕ) (q : recordForm t ≡ true) (at : i ≡ keysBel
   stands : Standing (store t) k i
   stands = rw at (standing (store t) k (formed t q .ascends))
 
-  pub find-ends : length (store t) ≤ i → Gap i ≡ placeOf (store t) k
-  find-ends h = go stands
+  pub find-has : hasKey t i k ≡ true → Has i ≡ placeOf (store t) k
+  find-has e = go stands
     where
-      go : Standing (store t) k i → Gap i ≡ placeOf (store t) k
-      go (present p) = absurd (omega (arith, p .inside))
-      go (absent p) = sym (place-gap p)
+      h : i < length (store t)
+      h = ltb-true i (length (store t)) (and-left _ (eqb (wordAt t (64 * i)) k) e)
 
-  pub find-same : i < length (store t) → eqb (wordAt t (64 * i)) k ≡ true → Has i ≡ placeOf (store t) k
-  find-same h e = go stands
-    where
+      same : wordAt t (64 * i) ≡ k
+      same = eqb-true _ k (and-right (ltb i (length (store t))) _ e)
+
       go : Standing (store t) k i → Has i ≡ placeOf (store t) k
       go (present p) = sym (place-has p)
-      go (absent p) = absurd (let higher = rw (record-at t i h .here) at (p .higher) in omega (arith, higher .0, eqb-true _ k e))
+      go (absent p) = absurd (let higher = rw (record-at t i h .here) at (p .higher) in omega (arith, higher .0, same))
 
-  pub find-other : eqb (wordAt t (64 * i)) k ≡ false → Gap i ≡ placeOf (store t) k
-  find-other d = go stands
+  pub find-gap : hasKey t i k ≡ false → Gap i ≡ placeOf (store t) k
+  find-gap d = go stands
     where
+      has : Present (store t) k i → hasKey t i k ≡ true
+      has p =
+          let same : wordAt t (64 * i) ≡ k = ap (λ (r : Record). r .key) (record-is t k i p) in
+          and-both _ _ (lt-ltb i _ (p .inside)) (eq-eqb _ k same)
+
       go : Standing (store t) k i → Gap i ≡ placeOf (store t) k
-      go (present p) = absurd (eqb-false _ k d (ap (λ (r : Record). r .key) (record-is t k i p)))
+      go (present p) = let yes = has p in let z : _≡_ {A = ℕ} 0 1 = cc in absurd (omega arith)
       go (absent p) = sym (place-gap p)
 
 -- what `look` answers

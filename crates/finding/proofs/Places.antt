@@ -14,7 +14,7 @@ use Rattle.rules.specs.Words.{Every}
 use Rattle.rules.specs.Table.{Record, _holds_, Store, get, recordBefore, put, Ascending}
 use Rattle.laws.proofs.Numbers.{Order, less, equal, more, order}
 use Rattle.laws.proofs.Lists.{every-map}
-use Rattle.laws.proofs.Stores.{get-here, get-past, get-below, put-first, ascending-lower}
+use Rattle.laws.proofs.Stores.{get-here, get-past, get-below, put-first, ascending-lower, put-after}
 use Rattle.finding.specs.Finding.{keysBelow, placeOf}
 use Rattle.finding.specs.declared.Place.the-variants.{Has, Gap}
 
@@ -33,10 +33,6 @@ below-past r s k h = rw (lt-ltb (r .key) k h, keysBelow)
 pub below-here : (r : Record) (s : Store) (k : ℕ) → k ≤ r .key → keysBelow (r ∷ s) k ≡ 0
 unfolding keysBelow
 below-here r s k h = rw (le-ltb (r .key) k h, keysBelow)
-
-put-past : (r : Record) (s : Store) (k v : ℕ) → r .key < k → put (r ∷ s) k v ≡ r ∷ put s k v
-unfolding put
-put-past r s k v h = rw (lt-ltb (r .key) k h, put)
 
 put-here : (k v w : ℕ) (s : Store) → put (k holds v ∷ s) k w ≡ recordBefore k w s
 unfolding put
@@ -87,7 +83,7 @@ unfolding keysBelow
 put-from [] k v = refl
 put-from (r ∷ s) k v =
     below-or-not r k
-    (λ h. rw (below-past r s k h, put-past r s k v h) (ap (λ (x : Store). r ∷ x) (put-from s k v)))
+    (λ h. rw (below-past r s k h, put-after r s k v h) (ap (λ (x : Store). r ∷ x) (put-from s k v)))
     (λ h. rw (below-here r s k h))
 
 ascending-from : (low : ℕ) (s : Store) (k : ℕ) → Ascending low s → Ascending k (drop (keysBelow s k) s)

@@ -2,11 +2,11 @@
 ghost use mathlib.Core.Path.{_≡_};
 ghost use mathlib.Core.Bool.{true};
 ghost use Prim.Native.Nat.{_≤_};
-ghost use lib.Dec.{ltb};
+ghost use lib.Dec.{eqb, ltb};
 ghost use lib.ListN.{length};
 ghost use Rattle.rules.specs.Words.{wordBytes, num};
 ghost use Rattle.rules.specs.Table.{store, recordForm};
-ghost use Rattle.finding.specs.Finding.{keysBelow, placeOf};
+ghost use Rattle.finding.specs.Finding.{keysBelow, placeOf, hasKey};
 
 // Where a key's record stands, or where it would.
 pub enum Place {
@@ -34,6 +34,20 @@ pub fn keys_below(t: &[u8], used: usize, key: &[u8]) -> usize
     low
 }
 
+// Whether the i-th record is occupied and has a key.
+fn has_key(t: &[u8], used: usize, i: usize, key: &[u8]) -> bool
+    requires { ⌜ recordForm (now t) ≡ true ⌝ }
+    requires { ⌜ used ≡ length (store (now t)) ⌝ }
+    requires { ⌜ length (now key) ≡ wordBytes ⌝ }
+    ensures { λ r. ⌜ r ≡ hasKey (now (t .entry)) i (num (now (key .entry))) ⌝ }
+{
+    if i < used {
+        words::same(moves::word_at(t, rules::RECORD_SIZE * i), key)
+    } else {
+        false
+    }
+}
+
 // Where a key's record stands, or where it would.
 pub fn find(t: &[u8], used: usize, key: &[u8]) -> Place
     requires { ⌜ recordForm (now t) ≡ true ⌝ }
@@ -42,10 +56,7 @@ pub fn find(t: &[u8], used: usize, key: &[u8]) -> Place
     ensures { λ r. ⌜ r ≡ placeOf (store (now (t .entry))) (num (now (key .entry))) ⌝ }
 {
     let i = keys_below(t, used, key);
-    if used <= i {
-        return Place::Gap(i);
-    }
-    if words::same(moves::word_at(t, rules::RECORD_SIZE * i), key) {
+    if has_key(t, used, i, key) {
         Place::Has(i)
     } else {
         Place::Gap(i)
@@ -65,6 +76,25 @@ fn stands_before(t: &[u8], used: usize, i: usize, key: &[u8]) -> bool
     words::at_most(key, moves::word_at(t, rules::RECORD_SIZE * (i - 1)))
 }
 
+// Whether i is a key's place: the records before i and at i decide.
+fn is_place(t: &[u8], used: usize, i: usize, key: &[u8]) -> bool
+    requires { ⌜ recordForm (now t) ≡ true ⌝ }
+    requires { ⌜ used ≡ length (store (now t)) ⌝ }
+    requires { ⌜ length (now key) ≡ wordBytes ⌝ }
+    ensures { λ r. ⌜ r ≡ eqb (keysBelow (store (now (t .entry))) (num (now (key .entry)))) i ⌝ }
+{
+    if used < i {
+        return false;
+    }
+    if stands_before(t, used, i, key) {
+        return false;
+    }
+    if i == used {
+        return true;
+    }
+    stands_before(t, used, i + 1, key)
+}
+
 // The same as `find`, whatever the guess. A guess that is the key's place spares the search.
 pub fn find_near(t: &[u8], used: usize, guess: usize, key: &[u8]) -> Place
     requires { ⌜ recordForm (now t) ≡ true ⌝ }
@@ -72,18 +102,11 @@ pub fn find_near(t: &[u8], used: usize, guess: usize, key: &[u8]) -> Place
     requires { ⌜ length (now key) ≡ wordBytes ⌝ }
     ensures { λ r. ⌜ r ≡ placeOf (store (now (t .entry))) (num (now (key .entry))) ⌝ }
 {
-    if used < guess {
-        return find(t, used, key);
+    if has_key(t, used, guess, key) {
+        return Place::Has(guess);
     }
-    if stands_before(t, used, guess, key) {
-        return find(t, used, key);
-    }
-    if guess == used {
+    if is_place(t, used, guess, key) {
         return Place::Gap(guess);
     }
-    match words::compare(moves::word_at(t, rules::RECORD_SIZE * guess), key) {
-        words::Order::Less => find(t, used, key),
-        words::Order::Equal => Place::Has(guess),
-        words::Order::Greater => Place::Gap(guess),
-    }
+    find(t, used, key)
 }

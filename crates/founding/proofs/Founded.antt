@@ -8,23 +8,23 @@ use lib.ListN.{length, replicate, length-replicate}
 use borrow.Author.Tests.{eqb-true, leb-true}
 use Rattle.rules.specs.Words.{Bytes, num}
 use Rattle.rules.specs.Table.{recordSize, greatestTable, Store, recordBytes, bytes, put, puts, room, store, lengthFits, recordForm}
-use Rattle.rules.specs.KernelStorage.{placeSlot, lengthSlot, addressSlot, indexSlot}
+use Rattle.rules.specs.KernelStorage.{placeSlot, lengthSlot}
 use Rattle.rules.specs.Capabilities.{kinds, number}
 use Rattle.rules.specs.Procedures.{listLength}
 use Rattle.rules.specs.Messages.{sameKind, requestedOf, requests}
 use Rattle.rules.specs.Calls.{wordRecords, capabilityRecords, kindRecords, afterRegister, firstCapabilities, fixedRecords, fresh}
 use Rattle.laws.proofs.Bools.{and-left, and-right}
-use Rattle.laws.proofs.Fresh.{fixed-three, fixed-lists-none}
+use Rattle.laws.proofs.Fresh.{fixed-three, fixed-lists-none, fixed-none-of}
 use Rattle.laws.proofs.Stores.{put-length}
 use Rattle.laws.proofs.Tables.{store-bytes}
 use Rattle.laws.proofs.TableRecords.{bytes-formed}
 use Rattle.words.specs.Words.{Holds}
 use Rattle.storing.specs.Storing.{Stored}
 use Rattle.storing.proofs.Chain.{counted}
-use Rattle.counting.specs.Counting.{takenBy, nonZero}
-use Rattle.appending.specs.Appending.{headRecords, AppendNeeds}
+use Rattle.counting.specs.Counting.{takenBy, nonZero, Needed}
+use Rattle.appending.specs.Appending.{placeRecords, AppendNeeds}
 use Rattle.founding.specs.Founding.{firstSeries, Empty, SetUpLent}
-use Rattle.founding.proofs.FirstSeries.{first-requests, first-well-formed, first-few}
+use Rattle.founding.proofs.FirstSeries.{first-requests, first-well-formed, first-few, first-long}
 
 -- a table that was cleared
 module _ {t key address kernelAddress : Bytes} (l : SetUpLent t key address kernelAddress) where
@@ -67,20 +67,16 @@ module _ {t key address kernelAddress : Bytes} (l : SetUpLent t key address kern
     its-requests : requests d ≡ firstCapabilities
     its-requests = ap requests s ∙ first-requests
 
-    seven : length (puts base (headRecords 1 (num key) (num address))) ≤ 7
-    unfolding puts
-    seven =
-        let three = fixed-three (num key) (num address) (num kernelAddress) (l .keyIs) (l .addressIs) (l .kernelIs) in
-        omega (
-          arith,
-          three,
-          put-length base (placeSlot 1) (num key),
-          put-length (put base (placeSlot 1) (num key)) lengthSlot 1,
-          put-length (put (put base (placeSlot 1) (num key)) lengthSlot 1) (addressSlot (num key)) (num address),
-          put-length (put (put (put base (placeSlot 1) (num key)) lengthSlot 1) (addressSlot (num key)) (num address)) (indexSlot (num key)) 1,
-        )
+    six-needed : Needed d 6
+    six-needed = record { is = λ p. sym (rw its-requests (six p)); small = omega (arith, ap length s, first-long) }
 
-    pub first-needs : AppendNeeds t₁ used 0 key word d
+    five : length (puts base (placeRecords 1 (num key))) ≤ 5
+    unfolding puts
+    five =
+        let three = fixed-three (num key) (num address) (num kernelAddress) (l .keyIs) (l .addressIs) (l .kernelIs) in
+        omega (arith, three, put-length base (placeSlot 1) (num key), put-length (put base (placeSlot 1) (num key)) lengthSlot 1)
+
+    pub first-needs : AppendNeeds t₁ used 0 key word d 6
     unfolding room
     first-needs =
         record {
@@ -92,12 +88,15 @@ module _ {t key address kernelAddress : Bytes} (l : SetUpLent t key address kern
               ∙ fixed-lists-none (num key) (num address) (num kernelAddress) (l .keyIs) (l .addressIs) (l .kernelIs));
           short = omega arith;
           key = l .keySize;
-          keyNonZero = l .keyIs .nonZero;
+          isKey = l .keyIs;
           word = w .size;
           addressNonZero = rw (w .number) (l .addressIs .nonZero);
           wellFormed = rw s first-well-formed;
           few = rw its-requests first-few;
-          fits = rw (w .number, fixed .stored, its-requests) (omega (arith, seven, six (num key), fixed .long, l .long));
+          none =
+              rw (fixed .stored) (fixed-none-of (num key) (num address) (num kernelAddress) (l .keyIs) (l .addressIs) (l .kernelIs));
+          counted = six-needed;
+          fits = rw (fixed .stored) (omega (arith, five, fixed .long, l .long));
         }
 
     pub founded : {t₂ : Bytes} {used₂ : ℕ} → Stored (length t₁) t₂ used₂ (afterRegister (store t₁) (num key) (num word) (requests d))

@@ -21,6 +21,10 @@ const SET_ENTRY_AT: usize = DELETE_AT + 3 * rules::WORD_BYTES;
 
 const WRITE_AT: usize = SET_ENTRY_AT + 2 * rules::WORD_BYTES;
 
+// How many records these capabilities need: the count of each of the five types, and the second word of Write, the only one that
+// is not zero.
+const FIRST_RECORDS: usize = 6;
+
 // Call(0,0), Register(0,0), Delete(0,0), Set Entry and Write(0, 2^256−1).
 fn first_series() -> [u8; FIRST_BYTES]
     ensures { λ r. ⌜ r ≡ firstSeries ⌝ }
@@ -63,5 +67,6 @@ pub fn found(t: &mut [u8], key: &[u8], address: &[u8], kernel_address: &[u8])
     moves::clear(t);
     let used = put_fixed(t, key, kernel_address);
     let word = right::right_word(address);
-    appending::append(t, used, 0, key, &word, &first_series());
+    let series = first_series();
+    appending::append(t, used, 0, key, &word, &series, FIRST_RECORDS);
 }

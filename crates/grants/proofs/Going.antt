@@ -4,7 +4,7 @@ use Prim.Native.Nat.{ℕ, _+_, _*_, _-_, _≤_}
 use native.Mathlib.Omega.{arith}
 use mathlib.Core.Path.{_≡_, refl, sym, ap, _∙_}
 use mathlib.Core.Bool.{true, false, true≢false}
-use lib.ListN.{length, take, drop, length-drop}
+use lib.ListN.{length, take, drop, length-drop, replicate, length-replicate}
 use Rattle.rules.specs.Words.{Bytes, wordBytes, num}
 use Rattle.rules.specs.Table.{Store, store}
 use Rattle.rules.specs.Capabilities.{Kind, Capability, within}
@@ -16,8 +16,10 @@ use Rattle.laws.proofs.SoundTests.{all-passed, all-failed}
 use Rattle.laws.proofs.WordParts.{rest-part}
 use Rattle.words.specs.Words.{Holds}
 use Rattle.rights.specs.Rights.{capabilityIn}
-use Rattle.held.specs.Held.{SearchNeeds, Searched}
+use Rattle.held.specs.Held.{copiesBytes, Reached, Unread, SearchNeeds, Searched}
+use Rattle.held.specs.declared.Reading.{Reading}
 use Rattle.held.specs.declared.Search.{Search}
+use Rattle.held.proofs.Copies.{unread-reached}
 use Rattle.key_words.specs.KeyWords.{KeyPart}
 use Rattle.requests.specs.Requests.{WellFormedFrom, requestsFrom, capabilityAt}
 use Rattle.series.specs.Series.{RequestAt}
@@ -27,19 +29,22 @@ use Rattle.results.specs.Results.{SoundWith}
 use Rattle.acting.proofs.Holder.{holder, current-kind-sound}
 use Rattle.grants.specs.Grants.{Granted}
 
--- the registrar's key, and the requests before `at` judged
-pub record Going (s : Store) (d : Bytes) (registrar : ℕ) (at sum : ℕ) : Type 0 where
+-- the registrar's key, how far what it holds was read, and the requests before `at` judged
+pub record Going (s : Store) (d : Bytes) (registrar : ℕ) (copies : Bytes) (reading : Reading) (at sum : ℕ) : Type 0 where
   pub holder : registrar ≡ current s
+  pub reached : Reached s registrar copies reading
   pub all : allOf (contained s) (requests d) ≡ allOf (contained s) (requestsFrom d at)
   pub total : tests s (requests d) ≡ sum + tests s (requestsFrom d at)
   pub few : sum ≤ 4 * at
   pub rest : WellFormedFrom d at
 
 pub going-starts : {t : Bytes} {used : ℕ} → SoundWith t used → {w part : Bytes} → Holds wordBytes w (current (store t))
-    → KeyPart (num w) part → (d : Bytes) → WellFormedFrom d seriesAt → Going (store t) d (num part) seriesAt 0
-going-starts {t} g h k d w =
+    → KeyPart (num w) part → {n : ℕ} {reading : Reading} → Unread (store t) (num part) n reading → (copies : Bytes) → copies ≡ replicate copiesBytes 0
+    → (d : Bytes) → WellFormedFrom d seriesAt → Going (store t) d (num part) copies reading seriesAt 0
+going-starts {t} g h k u copies l d w =
     record {
       holder = holder g h k;
+      reached = unread-reached u copies (ap length l ∙ length-replicate {A = ℕ} copiesBytes 0);
       all = ap (allOf (contained (store t))) (requests-start d);
       total = let whole = ap (tests (store t)) (requests-start d) in omega (arith, whole);
       few = omega arith;
@@ -51,7 +56,8 @@ part-request : (d : Bytes) (at : ℕ) (kind : Kind) → capabilityIn kind (take 
 unfolding capabilityAt
 part-request d at kind = ap (capabilityIn kind) (rest-part at d)
 
-module _ {t : Bytes} {used : ℕ} (g : SoundWith t used) {d : Bytes} {p at sum : ℕ} (i : Going (store t) d p at sum) {f : Found} (r : RequestAt d at f) where
+module _ {t : Bytes} {used : ℕ} (g : SoundWith t used) {d : Bytes} {p : ℕ} {before : Bytes} {reading : Reading} {at sum : ℕ}
+    (i : Going (store t) d p before reading at sum) {f : Found} (r : RequestAt d at f) where
   pub search-needs : SearchNeeds (store t) p (f .kind .0) (take (length d - f .«words_at») (drop (f .«words_at») d))
   search-needs =
       let size = ap length (rest-part (f .«words_at») d) ∙ length-drop (f .«words_at») d in
@@ -62,7 +68,8 @@ module _ {t : Bytes} {used : ℕ} (g : SoundWith t used) {d : Bytes} {p at sum :
         size = omega (arith, size, r .nextAt, r .within);
       }
 
-  module _ {x : Search} (found : Searched (store t) p (f .kind .0) (take (length d - f .«words_at») (drop (f .«words_at») d)) x) where
+  module _ {copies : Bytes} {x : Search}
+      (found : Searched (store t) p (f .kind .0) (take (length d - f .«words_at») (drop (f .«words_at») d)) copies x) where
     abbrev this : Capability
     this = capabilityAt d (r .type) (f .«words_at»)
 
@@ -83,13 +90,14 @@ module _ {t : Bytes} {used : ℕ} (g : SoundWith t used) {d : Bytes} {p at sum :
         ∙ ap (λ (c : Capability). testsIn (r .type) c (held (store t) p (r .type))) (part-request d (f .«words_at») (r .type))
         ∙ ap (λ (y : ℕ). testsIn (r .type) this (held (store t) y (r .type))) (i .holder)
 
-    pub going-on : x .contained ≡ true → Going (store t) d p (f .next) (sum + x .tests)
+    pub going-on : x .contained ≡ true → Going (store t) d p copies (x .reading) (f .next) (sum + x .tests)
     unfolding tests
     going-on q =
         let more : tests (store t) (requestsFrom d at) ≡ x .tests + tests (store t) (requestsFrom d (f .next)) =
         ap (tests (store t)) (r .first) ∙ ap (λ (n : ℕ). n + tests (store t) (requestsFrom d (f .next))) (sym its-tests) in
         record {
           holder = i .holder;
+          reached = found .reached;
           all =
               i .all
               ∙ ap (allOf (contained (store t))) (r .first)
@@ -111,8 +119,8 @@ module _ {t : Bytes} {used : ℕ} (g : SoundWith t used) {d : Bytes} {p at sum :
           none = λ z. refl;
         }
 
-pub all-granted : {s : Store} {d : Bytes} {p at sum : ℕ} → Going s d p at sum → length d ≤ at
-    → Granted s (requests d) (record { contained = true; tests = sum })
+pub all-granted : {s : Store} {d : Bytes} {p : ℕ} {copies : Bytes} {reading : Reading} {at sum : ℕ} → Going s d p copies reading at sum
+    → length d ≤ at → Granted s (requests d) (record { contained = true; tests = sum })
 unfolding allOf tests
 all-granted {s} {d} {at = at} {sum} i h =
     let none = requests-end d at h in

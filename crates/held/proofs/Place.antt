@@ -58,7 +58,7 @@ module _ (s : Store) (p : ℕ) (kind : Kind) (b : Capability) where
       go false true e q later = later (ltb-true (suc i) j q) (omega (arith, tests-later kind b _ (left n (suc i)) e))
       go false false e q later = let here : j ≡ suc i = omega (arith, ltb-false (suc i) j q) in ap contains here ∙ e
 
-module _ {s : Store} {p n : ℕ} {request : Bytes} {r : Search} (found : Searched s p n request r) (kind : Kind) (q : number kind ≡ n) where
+module _ {s : Store} {p n : ℕ} {request copies : Bytes} {r : Search} (found : Searched s p n request copies r) (kind : Kind) (q : number kind ≡ n) where
   -- the capability at the place contains the request
   pub place-contains : r .contained ≡ true → within kind (capabilityIn kind request) (capability s p kind (r .tests)) ≡ true
   unfolding held

@@ -1,13 +1,14 @@
 -- The words of a held capability, looked up in the table and put one behind the other: they are the capability that the store holds.
-use Prim.Native.Nat.{ℕ, _+_, _<_, min}
+use Prim.Native.Nat.{ℕ, _+_, _*_, _<_, min}
 use native.Mathlib.Omega.{arith}
 use mathlib.Core.Path.{_≡_, refl, sym, ap, ap₂, _∙_}
 use mathlib.Core.List.{[], _∷_, _++_}
+use mathlib.Core.Bool.{true}
 use lib.ListN.{length, take, drop, getD, length-append, length-drop}
 use lib.Seq.{take-at, drop-at, drop-drop}
 use borrow.Rule.Slice.PartMut.{putMid, postOf}
 use Rattle.rules.specs.Words.{Bytes, num, word, words}
-use Rattle.rules.specs.Table.{Store, get, store}
+use Rattle.rules.specs.Table.{Store, get, store, recordForm}
 use Rattle.rules.specs.KernelStorage.{countSlot, wordSlot}
 use Rattle.rules.specs.Procedures.{wordsFrom, capability}
 use Rattle.rules.specs.Source.{wordsOf}
@@ -18,6 +19,8 @@ use Rattle.laws.proofs.Looked.{looked-number}
 use Rattle.words.specs.Words.{smallLimit}
 use Rattle.slots.specs.Slots.{KeyOf}
 use Rattle.finding.specs.Finding.{keysBelow}
+use Rattle.finding.proofs.Places.{Present, Absent}
+use Rattle.finding.proofs.Finding.{look-present}
 use Rattle.holding.specs.Holding.{WordOf, CountOf, CapabilityOf, guessBehind, WordsRead}
 
 -- What is looked up at a slot.
@@ -31,14 +34,20 @@ module _ (t : Bytes) (values : (i : ℕ) → getD t i 0 < 256) {slot : ℕ} {key
       }
 
 -- and at the slot of a count
-pub counted : (t : Bytes) (values : (i : ℕ) → getD t i 0 < 256) {p n : ℕ} {key w : Bytes} {number next : ℕ} → KeyOf (countSlot p n) key
-    → (w ≡ word (get (store t) (num key))) × (next ≡ keysBelow (store t) (num key + 1)) → number ≡ min (num w) smallLimit
-    → CountOf (store t) p n (record { number = number; next = next })
-counted t values k q e =
-    record {
-      number = e ∙ ap (λ (x : ℕ). min x smallLimit) (looked t values k (q .0) .number);
-      next = q .1 ∙ ap (λ (x : ℕ). keysBelow (store t) (x + 1)) (k .number);
-    }
+module _ (t : Bytes) {p n : ℕ} {key : Bytes} {i : ℕ} (k : KeyOf (countSlot p n) key) where
+  pub counted : (values : (j : ℕ) → getD t j 0 < 256) {w : Bytes} → recordForm t ≡ true → Present (store t) (num key) i
+      → w ≡ take 32 (drop (64 * i + 32) t) → {number : ℕ} → number ≡ min (num w) smallLimit
+      → CountOf (store t) p n (record { number = number; place = i })
+  counted values f there q e =
+      record {
+        number = e ∙ ap (λ (x : ℕ). min x smallLimit) (looked t values k (q ∙ look-present t (num key) i f there) .number);
+        place = there .place ∙ ap (keysBelow (store t)) (k .number);
+      }
+
+  pub counted-none : Absent (store t) (num key) i → CountOf (store t) p n (record { number = 0; place = i })
+  counted-none gone =
+      let none : get (store t) (countSlot p n) ≡ 0 = ap (get (store t)) (sym (k .number)) ∙ gone .none in
+      record { number = omega (arith, none); place = gone .place ∙ ap (keysBelow (store t)) (k .number) }
 
 -- The words of bytes that begin with one word, and with two.
 one-in : (a rest : Bytes) → length a ≡ 32 → words 1 (a ++ rest) ≡ num a ∷ []

@@ -24,10 +24,10 @@ pub record Readable (t : Bytes) (used : ℕ) (procedure : Bytes) : Type 0 where
 abbrev pub WordOf : (x : ℕ) → (w : Bytes) → Type 0
 WordOf x w = Holds wordBytes w x
 
--- the number of capabilities of the type that n names, as `small` gives it, and how many records have at most its key
+-- the number of capabilities of the type that n names, as `small` gives it, and how many keys are below its key
 pub record CountOf (s : Store) (p n : ℕ) (r : Count) : Type 0 where
   pub number : r .number ≡ min (get s (countSlot p n)) smallLimit
-  pub next : r .next ≡ keysBelow s (countSlot p n + 1)
+  pub place : r .place ≡ keysBelow s (countSlot p n)
 
 -- room for a capability of any type, all zero
 abbrev pub noCapability : Bytes

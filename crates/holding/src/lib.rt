@@ -1,4 +1,5 @@
 // The capabilities that a procedure holds, read from the table.
+use records::Place;
 ghost use mathlib.Core.Path.{_≡_};
 ghost use Prim.Native.Nat.{_*_, min};
 ghost use lib.ListN.{length};
@@ -12,11 +13,10 @@ ghost use Rattle.holding.specs.Holding.{Readable, CountOf, WordsRead, no
 // Room for a capability of any type.
 pub const CAPABILITY_BYTES: usize = rules::WORD_BYTES * rules::GREATEST_WORDS;
 
-// How many capabilities of a type a procedure holds, and how many records have at most that count's key: where the first of these
-// capabilities is looked for.
+// How many capabilities of a type a procedure holds, and the place of that count: how many keys are below its key.
 pub struct Count {
     pub number: usize,
-    pub next: usize,
+    pub place: usize,
 }
 
 // The count of a type, or what `small` makes of one that is not small.
@@ -25,11 +25,18 @@ pub fn read_count(t: &[u8], used: usize, procedure: &[u8], kind: rules::Kind) ->
     ensures { λ r. ⌜ CountOf (store (now (t .entry))) (num (now (procedure .entry))) (kind .0) r ⌝ }
 {
     let slot = slots::count_slot(procedure, kind);
-    let mut word = [0u8; rules::WORD_BYTES];
-    let next = records::look_near(&mut word, t, used, used, &slot);
-    Count {
-        number: words::small(&word),
-        next,
+    match records::find(t, used, &slot) {
+        Place::Has(i) => {
+            let value_at = rules::RECORD_SIZE * i + rules::WORD_BYTES;
+            Count {
+                number: words::small(moves::word_at(t, value_at)),
+                place: i,
+            }
+        }
+        Place::Gap(i) => Count {
+            number: 0,
+            place: i,
+        },
     }
 }
 

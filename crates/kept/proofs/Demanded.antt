@@ -10,7 +10,7 @@ use Rattle.demands.proofs.Demand1.{demand-1}
 use Rattle.demands.proofs.Demand2.{own-payload, set-up-payload, turn-payload, look-payload, system-call-fields}
 use Rattle.demands.proofs.Demand3.{demand-3}
 use Rattle.results.specs.Results.{Gives}
-use Rattle.kernel.specs.Promises.{PayloadPromise}
+use Rattle.payloads.specs.Payloads.{PayloadPromise}
 use Rattle.kept.specs.Demanded.{Given, Functions, KeepPromises, refusalAmong, answerWith, readOutcome, kernelOf, messageOf, givenTo}
 use Rattle.rules.specs.declared.Answer.{Answer as Case}
 use Rattle.rules.specs.declared.Answer.the-variants.{Refused, Done, Called, Registered, Looked}

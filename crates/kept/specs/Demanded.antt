@@ -5,12 +5,12 @@ use mathlib.Core.Bool.{true, false}
 use lib.Dec.{eqb}
 use Rattle.rules.specs.Words.{Bytes, AllBytes}
 use Rattle.rules.specs.Answers.{Refusal, ed, refusals, codeNumber, Answer, refused, done, called, registered, looked, Outcome}
-use Rattle.rules.specs.Calls.{turn, look}
 use Rattle.rules.specs.Demands.{AnyCall, settingUp, turning, looking, calling, Kernel}
 use Rattle.rules.specs.declared.Answer.{Answer as Case}
 use Rattle.rules.specs.declared.Answer.the-variants.{Refused, Done, Called, Registered, Looked}
 use Rattle.rules.specs.declared.Reply.{Reply}
-use Rattle.kernel.specs.Promises.{SetUpPromise, TurnPromise, LookPromise, SystemCallPromise, PayloadPromise}
+use Rattle.kernel.specs.Promises.{SetUpPromise, TurnPromise, LookPromise, SystemCallPromise}
+use Rattle.payloads.specs.Payloads.{PayloadPromise}
 
 -- what a call gives back: the reply, and every byte of the table after
 pub record Given : Type 0 where

@@ -1,9 +1,7 @@
--- What the five functions promise, for every input: the reply or the part that they return, and every byte of the table after.
-use mathlib.Core.Path.{_≡_}
+-- What the four functions on a table promise, for every input: the reply, and every byte of the table after. What `payload`
+-- promises stands in crates/payloads.
 use Rattle.rules.specs.Words.{Bytes}
 use Rattle.rules.specs.Calls.{setUp, turn, look, systemCall}
-use Rattle.rules.specs.Source.{fieldsWith}
-use Rattle.rules.specs.declared.Answer.{Answer as Case}
 use Rattle.rules.specs.declared.Reply.{Reply}
 use Rattle.results.specs.Results.{Gives}
 
@@ -18,7 +16,3 @@ LookPromise t k r after = Gives (look t k) r after
 
 abbrev pub SystemCallPromise : (table message code mask : Bytes) → Reply → (after : Bytes) → Type 0
 SystemCallPromise t m code mask r after = Gives (systemCall t m code mask) r after
-
--- the payload of an answer to a message, whatever stands beside the answer in its reply
-abbrev pub PayloadPromise : (message : Bytes) → Case → (payload : Bytes) → Type 0
-PayloadPromise m answer payload = (address value : Bytes) → payload ≡ fieldsWith answer address value m .payload

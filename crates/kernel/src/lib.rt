@@ -1,12 +1,10 @@
 // The kernel: set-up, Turn, Look and the system calls on a lent table. No function asks anything of what it is lent: each
 // promises the whole answer and every byte of the table after, for every input.
-use rules::Answer;
+pub use payloads::payload;
 use rules::Refusal;
 use rules::Reply;
 use soundness::Soundness;
-ghost use mathlib.Core.Path.{_≡_};
-ghost use mathlib.Core.List.{[]};
-ghost use Rattle.kernel.specs.Promises.{SetUpPromise, TurnPromise, LookPromise, SystemCallPromise, PayloadPromise};
+ghost use Rattle.kernel.specs.Promises.{SetUpPromise, TurnPromise, LookPromise, SystemCallPromise};
 
 // Set-up: 66 ed for each size, 66 ef for the table's length; then the rest.
 pub fn set_up(t: &mut [u8], key: &[u8], address: &[u8], kernel_address: &[u8]) -> Reply
@@ -74,25 +72,5 @@ pub fn system_call(t: &mut [u8], message: &[u8], code: &[u8], mask: &[u8]) -> Re
             }
             system::of_message(t, used, message, code, mask)
         }
-    }
-}
-
-// The empty part of a message, at its end.
-fn empty_part(message: &[u8]) -> &[u8]
-    ensures { λ r. ⌜ now r ≡ [] ⌝ }
-{
-    &message[message.len()..]
-}
-
-// The payload of a Call that was permitted: a part of the caller's own message, and no copy. For every other answer it is empty.
-pub fn payload(message: &[u8], answer: Answer) -> &[u8]
-    ensures { λ r. ⌜ PayloadPromise (now (message .entry)) answer (now r) ⌝ }
-{
-    match answer {
-        Answer::Called => messages::payload_of(message),
-        Answer::Refused(_) => empty_part(message),
-        Answer::Done => empty_part(message),
-        Answer::Registered(_) => empty_part(message),
-        Answer::Looked => empty_part(message),
     }
 }

@@ -1,6 +1,6 @@
 -- "Set-up needs 13 records (832 bytes)": the store after set-up, record by record, for every key and every two addresses.
 -- Each group of records that set-up puts ascends by key and stands before the groups put earlier, so it is put in front of them.
-use Prim.Native.Nat.{ℕ, suc, _/_, _<_}
+use Prim.Native.Nat.{ℕ, suc, _+_, _/_, _^_, _≤_, _<_}
 use native.Mathlib.Omega.{arith}
 use native.Mathlib.Nat.{le-refl, lt-trans}
 use mathlib.Core.Path.{_≡_, refl, ap, _∙_}
@@ -10,7 +10,7 @@ use lib.Dec.{ltb, lit<}
 use lib.ListN.{length}
 use borrow.Author.Tests.{lt-ltb, le-ltb, ltb-true, ltb-false}
 use Rattle.rules.specs.Words.{Bytes}
-use Rattle.rules.specs.Table.{recordSize, Record, _holds_, Store, put, puts, recordBefore, room, Ascending}
+use Rattle.rules.specs.Table.{recordSize, Record, _holds_, Store, get, put, puts, recordBefore, room, Ascending}
 use Rattle.rules.specs.KernelStorage.{ending, addressSlot, indexSlot, countSlot, wordSlot, lengthSlot, placeSlot, kernelAddressSlot, currentSlot, entrySlot}
 use Rattle.rules.specs.Capabilities.{write, number}
 use Rattle.rules.specs.Procedures.{listLength}
@@ -19,7 +19,7 @@ use Rattle.rules.specs.Messages.{sameKind, requestedOf}
 use Rattle.rules.specs.Examples.{firstRecords}
 use Rattle.rules.specs.Calls.{noRoom, wordRecords, capabilityRecords, kindRecords, afterRegister, firstCapabilities, fixedRecords, fresh}
 use Rattle.laws.proofs.Stores.{get-below, ascending-lower, put-first, puts-all, AscendingBefore, recordsBefore, recordBefore-present, puts-before}
-use Rattle.laws.proofs.NewRecords.{procedureRecords}
+use Rattle.laws.proofs.NewRecords.{procedureRecords, own-below}
 use Rattle.laws.proofs.Slots.{fixed, inProcedure, atPlace, slot-less-region, slot-less-middle, slot-less-end}
 
 -- The 13 records: regions 02, 03 and 04; before them the list, region 01; before it the procedure's own, region 00.
@@ -83,6 +83,13 @@ module _ (k a ka : ℕ) (isKey : IsKey k) (isAddress : IsAddress a) (kernelFits 
 
   pub fixed-lists-none : listLength (fixedRecords k ka) ≡ 0
   fixed-lists-none = ap listLength fixed-is ∙ none-listed
+
+  -- nor has the procedure a record
+  pub fixed-none-of : (x : ℕ) → addressSlot k ≤ x → x < addressSlot k + 2 ^ 24 → get (fixedRecords k ka) x ≡ 0
+  unfolding kernelAddressSlot
+  fixed-none-of x from below =
+      ap (λ s. get s x) fixed-is
+      ∙ get-below kernelAddressSlot (fixedStore k ka) x fixed-ascends (own-below k (isKey .fits) x from below 2 0 0 (omega arith))
 
   list-is : put (put (fixedStore k ka) (placeSlot 1) k) lengthSlot 1 ≡ listStore k ka
   unfolding recordBefore

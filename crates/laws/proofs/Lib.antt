@@ -14,6 +14,7 @@ pub mod Slots
 pub mod Tables
 pub mod Rows
 pub mod Records
+pub mod Among
 pub mod Places
 pub mod Procedures
 pub mod LastPlace

@@ -1,6 +1,6 @@
 -- The records that Register stores: the new procedure's own, the place of its key and the list's length. The procedure's own rise
 -- from its address slot on, and the other two stand in another region: no key stands twice.
-use Prim.Native.Nat.{ℕ, suc, _+_, _-_, _^_, _<_}
+use Prim.Native.Nat.{ℕ, suc, _+_, _-_, _^_, _≤_, _<_}
 use native.Mathlib.Omega.{arith}
 use mathlib.Core.Path.{_≡_}
 use mathlib.Core.List.{List, _∷_}
@@ -13,10 +13,10 @@ use Rattle.rules.specs.Calls.{kindRecords}
 use Rattle.laws.proofs.Lists.{_also_}
 use Rattle.laws.proofs.Stores.{Misses}
 use Rattle.laws.proofs.Records.{Apart, Rising, rising-misses, rising-apart}
-use Rattle.laws.proofs.Slots.{Fits, slot-middle, regions-apart, fixed, inProcedure}
+use Rattle.laws.proofs.Slots.{Fits, slot-middle, slot-less-region, regions-apart, fixed, inProcedure}
 use Rattle.laws.proofs.KindFacts.{kinds-climb}
 use Rattle.laws.proofs.Places.{place-fits}
-use Rattle.laws.proofs.RegisterRecords.{Registration, slot-after, kinds-rise}
+use Rattle.laws.proofs.RegisterRecords.{Storable, Registration, slot-after, kinds-rise}
 
 -- the records of the new procedure, and all that are stored
 abbrev pub procedureRecords : (place p a : ℕ) → List Request → List Record
@@ -24,6 +24,23 @@ procedureRecords place p a rs = addressSlot p holds a ∷ indexSlot p holds plac
 
 abbrev pub newRecords : (place p a : ℕ) → List Request → List Record
 newRecords place p a rs = placeSlot place holds p ∷ lengthSlot holds place ∷ procedureRecords place p a rs
+
+-- Those of the procedure rise, from its address slot on.
+pub procedure-rises : (place p a : ℕ) (rs : List Request) → Storable rs
+    → Rising (addressSlot p) (addressSlot p + 2 ^ 24) (procedureRecords place p a rs)
+unfolding indexSlot ending
+procedure-rises place p a rs storable =
+    let second = slot-after p 1 in
+    omega arith
+    also omega arith
+    also kinds-rise p rs storable (suc (slot 0 p 1)) 3 kinds kinds-climb (omega arith) (omega arith)
+
+-- A slot of the procedure is below every slot of another region.
+pub own-below : (p : ℕ) → p < 2 ^ 192 → (k : ℕ) → addressSlot p ≤ k → k < addressSlot p + 2 ^ 24 → (r m e : ℕ) → 0 < r → k < slot r m e
+own-below p fits k from below r m e other =
+    let here = slot-after p (k - addressSlot p) in
+    let first = slot-less-region m e (inProcedure p fits (k - addressSlot p) (omega arith)) other in
+    omega arith
 
 module _ {s : Store} {p a : ℕ} {rs : List Request} (new : Registration s p a rs) where
   abbrev place : ℕ
@@ -42,14 +59,9 @@ module _ {s : Store} {p a : ℕ} {rs : List Request} (new : Registration s p a r
   pub own-fits : (e : ℕ) → e < 2 ^ 24 → Fits 0 p e
   own-fits = inProcedure p (new .isKey .fits)
 
-  -- Those of the procedure rise, so a key that is no slot of the procedure is none of theirs.
+  -- A key that is no slot of the procedure is none of theirs.
   pub own-rises : Rising (addressSlot p) (addressSlot p + 2 ^ 24) own
-  unfolding indexSlot ending
-  own-rises =
-      let second = slot-after p 1 in
-      omega arith
-      also omega arith
-      also kinds-rise p rs (new .storable) (suc (slot 0 p 1)) 3 kinds kinds-climb (omega arith) (omega arith)
+  own-rises = procedure-rises place p a rs (new .storable)
 
   pub own-misses : (k : ℕ) → ((e : ℕ) → e < 2 ^ 24 → k ≡ slot 0 p e → ⊥) → Misses k own
   own-misses k other =

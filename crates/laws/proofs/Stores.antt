@@ -74,15 +74,15 @@ put-none : (k v : ℕ) → put [] k v ≡ recordBefore k v []
 unfolding put
 put-none k v = refl
 
-put-before : (e : Record) (s : Store) (k v : ℕ) → k < e .key → put (e ∷ s) k v ≡ recordBefore k v (e ∷ s)
+pub put-before : (e : Record) (s : Store) (k v : ℕ) → k < e .key → put (e ∷ s) k v ≡ recordBefore k v (e ∷ s)
 unfolding put
 put-before e s k v h = rw (le-ltb (e .key) k (omega arith), put) (rw (ne-eqb k (e .key) (λ q. omega arith)))
 
-put-at : (e : Record) (s : Store) (k v : ℕ) → k ≡ e .key → put (e ∷ s) k v ≡ recordBefore k v s
+pub put-at : (e : Record) (s : Store) (k v : ℕ) → k ≡ e .key → put (e ∷ s) k v ≡ recordBefore k v s
 unfolding put
 put-at e s k v h = rw (le-ltb (e .key) k (omega arith), put) (rw (eq-eqb k (e .key) h))
 
-put-after : (e : Record) (s : Store) (k v : ℕ) → e .key < k → put (e ∷ s) k v ≡ e ∷ put s k v
+pub put-after : (e : Record) (s : Store) (k v : ℕ) → e .key < k → put (e ∷ s) k v ≡ e ∷ put s k v
 unfolding put
 put-after e s k v h = rw (lt-ltb (e .key) k h, put)
 

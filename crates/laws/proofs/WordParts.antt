@@ -59,13 +59,6 @@ no-leads bs at a b e h q =
     let small = subst (λ (x : ℕ). x < 256 ^ b) parts (leb-false (256 ^ b) (wordAt bs at) q) in
     sym (parts ∙ below (num (take a (drop at bs))) (256 ^ b) (num (take b (drop (at + a) bs))) small)
 
--- the first byte
-pub first-byte : (bs : Bytes) (at : ℕ) → AllBytes bs → at + 32 ≤ length bs → wordAt bs at / 256 ^ 31 ≡ getD bs at 0
-first-byte bs at v h =
-    ap (λ (x : ℕ). x / 256 ^ 31) (word-parts bs at 1 31 refl h)
-    ∙ digits-div (256 ^ 31) (num (take 1 (drop at bs))) (num (take 31 (drop (at + 1) bs))) (low-fits bs (at + 1) 31 v (omega arith))
-    ∙ num-one bs at (omega arith)
-
 -- the last byte
 pub last-byte : (bs : Bytes) (at : ℕ) → at + 32 ≤ length bs
     → wordAt bs at ≡ num (take 31 (drop at bs)) * 256 + getD bs (at + 31) 0

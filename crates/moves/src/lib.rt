@@ -1,6 +1,5 @@
 // Bytes moved in slices: a word is read, bytes are copied, cleared and shifted.
 pub use shifts::shift_left;
-pub use shifts::shift_right;
 ghost use mathlib.Core.Path.{_≡_};
 ghost use Prim.Native.Nat.{_+_, _≤_};
 ghost use lib.ListN.{length, replicate};
@@ -15,13 +14,14 @@ pub fn word_at(bytes: &[u8], at: usize) -> &[u8]
     &bytes[at..at + rules::WORD_BYTES]
 }
 
-// All of `from` into `to`, which is as long.
+// All of `from` into `to`, which is as long. The length of `to` is mostly known when the code is compiled, and the bytes are then
+// moved at once.
 pub fn copy(to: &mut [u8], from: &[u8])
     requires { ⌜ length (now to) ≡ length (now from) ⌝ }
     ensures { λ _. ⌜ now (to .exit) ≡ now (from .entry) ⌝ }
 {
     let mut i = 0;
-    while i < from.len() {
+    while i < to.len() {
         to[i] = from[i];
         i += 1;
     }
@@ -35,6 +35,16 @@ pub fn read(word: &[u8]) -> [u8; rules::WORD_BYTES]
     let mut r = [0; rules::WORD_BYTES];
     copy(&mut r, word);
     r
+}
+
+// A word into another. It is read whole before it is written: the compiler then moves it at once, without asking whether the two
+// overlap.
+pub fn copy_word(to: &mut [u8], from: &[u8])
+    requires { ⌜ (length (now to) ≡ wordBytes) × (length (now from) ≡ wordBytes) ⌝ }
+    ensures { λ _. ⌜ now (to .exit) ≡ now (from .entry) ⌝ }
+{
+    let word = read(from);
+    copy(to, &word);
 }
 
 // Zero everywhere.

@@ -11,7 +11,7 @@ use Rattle.rules.specs.Program.{space, hex, decimal, spaced, printed}
 use Rattle.rules.specs.Source.{replyOf, refusedReply}
 use Rattle.writing.specs.Wrote.{Wrote}
 use Rattle.writing.proofs.Texts.{wrote-both, hex-length}
-use Rattle.writing.proofs.Numerals.{decimal-fits}
+use Rattle.decimals.proofs.Decimals.{decimal-fits}
 use Rattle.printing.specs.Printing.{printedFlag, printedFields, printedReply}
 
 -- bytes after a space

@@ -47,7 +47,7 @@ fn put_number(out: &mut [u8], at: usize, n: u64) -> usize
     ensures { λ r. ⌜ r ≤ at + 21 ⌝ }
 {
     let end = writing::put(out, at, b' ');
-    writing::put_decimal(out, end, n)
+    decimals::put_decimal(out, end, n)
 }
 
 // The fields after the flag.

@@ -48,7 +48,7 @@ pub fn look_near(to: &mut [u8], t: &[u8], used: usize, guess: usize, key: &[u8])
     match finding::find_near(t, used, guess, key) {
         Place::Has(i) => {
             let value_at = rules::RECORD_SIZE * i + rules::WORD_BYTES;
-            moves::copy(to, moves::word_at(t, value_at));
+            moves::copy_word(to, moves::word_at(t, value_at));
             i + 1
         }
         Place::Gap(i) => {

@@ -23,8 +23,8 @@ use Rattle.laws.proofs.SeriesRequests.{requests-storable}
 use Rattle.words.specs.Words.{Holds}
 use Rattle.storing.specs.Storing.{Stored}
 use Rattle.counting.specs.Counting.{nonZero, Needed}
-use Rattle.appending.specs.Appending.{headRecords, AppendNeeds}
-use Rattle.appending.proofs.Added.{registered-length, head-length}
+use Rattle.appending.specs.Appending.{placeRecords, NoneOf, AppendNeeds}
+use Rattle.appending.proofs.Added.{registered-length, place-length, none-of}
 use Rattle.results.specs.Results.{SoundWith, Gives}
 use Rattle.results.proofs.Rows.{refusal, changes, refuses, passes, ends}
 use Rattle.acting.proofs.Holder.{occupied}
@@ -54,12 +54,16 @@ module _ {t : Bytes} {used : ℕ} (g : SoundWith t used) {places : ℕ} (d : Byt
       (requests-storable d (a .few)) (a .unlisted) in
       omega (arith, longer, g .count)
 
-  head-fits : length (puts (store t) (headRecords (suc places) (keyWord d) (addressWord d))) ≡ used + 3
-  head-fits =
+  place-fits : length (puts (store t) (placeRecords (suc places) (keyWord d))) ≡ used + 1
+  place-fits =
       let longer =
-      head-length (soundTable-good t (g .sound) .good) (is-key (a .judged)) (is-address (a .judged))
+      place-length (soundTable-good t (g .sound) .good) (is-key (a .judged)) (is-address (a .judged))
       (requests-storable d (a .few)) (a .unlisted) in
       rw (a .all) (omega (arith, longer, g .count))
+
+  none : NoneOf (keyWord d) (store t)
+  none =
+      none-of (soundTable-good t (g .sound) .good) (is-key (a .judged)) (is-address (a .judged)) (requests-storable d (a .few)) (a .unlisted)
 
   -- as the code counts them
   module _ {n : ℕ} (q : Needed d n) where
@@ -82,7 +86,7 @@ module _ {t : Bytes} {used : ℕ} (g : SoundWith t used) {places : ℕ} (d : Byt
     module _ (h : used + 3 + n ≤ length t / recordSize) where
       -- what is asked of the key and the address, in bytes
       pub append-needs : {key address : Bytes} → Holds keyBytes key (keyWord d) → Holds wordBytes address (addressWord d)
-          → AppendNeeds t used places key address d
+          → AppendNeeds t used places key address d n
       unfolding room
       append-needs {key} {address} k v =
           record {
@@ -91,12 +95,14 @@ module _ {t : Bytes} {used : ℕ} (g : SoundWith t used) {places : ℕ} (d : Byt
             listed = a .all;
             short = a .short;
             key = k .size;
-            keyNonZero = rw (k .number) (a .judged .keyNonZero);
+            isKey = rw (k .number) (is-key (a .judged));
             word = v .size;
             addressNonZero = rw (v .number) (a .judged .addressNonZero);
             wellFormed = a .judged .wellFormed;
             few = a .few;
-            fits = rw (k .number, v .number) (omega (arith, head-fits, q .is (keyWord d), h));
+            none = rw (k .number) none;
+            counted = q;
+            fits = rw (k .number) (omega (arith, place-fits, h));
           }
 
       pub register-done : {key address : Bytes} → Holds keyBytes key (keyWord d) → Holds wordBytes address (addressWord d)

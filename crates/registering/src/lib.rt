@@ -18,9 +18,10 @@ fn append_if_room(t: &mut [u8], used: usize, places: usize, d: &[u8], tests: u64
     requires { ⌜ Appendable (now t) places (now d) ⌝ }
     ensures { λ r. ⌜ Gives (outcome (now (t .entry)) (onRoom (room (now (t .entry))) (store (now (t .entry))) (now (d .entry)) tests)) r (now (t .exit)) ⌝ }
 {
+    let needed = counting::records_needed(d);
     // A new procedure has a record for its place, its address and its index; the list length has one already.
-    let needed = used + 3 + counting::records_needed(d);
-    if t.len() / rules::RECORD_SIZE < needed {
+    let after = used + 3 + needed;
+    if t.len() / rules::RECORD_SIZE < after {
         return Reply::refused(Refusal::NO_ROOM);
     }
     appending::append(
@@ -30,6 +31,7 @@ fn append_if_room(t: &mut [u8], used: usize, places: usize, d: &[u8], tests: u64
         messages::key_of(d),
         messages::address_word(d),
         d,
+        needed,
     );
     Reply::registered(tests)
 }

@@ -1,15 +1,15 @@
 -- The series from an offset on: after a good request it is the series from the next one on, and with a malformed one it is none.
--- Callers that loop over the requests start with `requests-start` and `well-formed-start`, and end with `requests-end`.
+-- Callers that loop over the requests start with `requests-start` and end with `requests-end`.
 use Prim.Native.Nat.{ℕ, zero, suc, _+_, _*_, _-_, _/_, _%_, _≤_, _<_}
 use native.Mathlib.Omega.{arith}
 use mathlib.Core.Path.{_≡_, refl, sym, ap, _∙_}
 use mathlib.Core.List.{List, [], _∷_}
-use mathlib.Core.Bool.{true, false, not, true≢false}
+use mathlib.Core.Bool.{true, false, true≢false}
 use mathlib.Core.Option.{Option, none, some}
 use lib.Dec.{eqb}
 use lib.ListN.{length, drop, length-drop, drop-of-length-le}
 use lib.Seq.{drop-drop}
-use borrow.Author.Tests.{eq-eqb, ne-eqb, not-true}
+use borrow.Author.Tests.{eq-eqb, ne-eqb}
 use Rattle.rules.specs.Words.{Bytes, wordAt, words}
 use Rattle.rules.specs.Capabilities.{Kind, wordCount}
 use Rattle.rules.specs.Messages.{Request, addRequest, seriesFrom, series, seriesAt, seriesOf, malformed, orEmpty, requests}
@@ -111,10 +111,6 @@ follows d at r next w e = go (series (drop next d)) refl
     go (some rs) q = record { requests = ap orEmpty e ∙ rw q; rest = ap malformed q }
 
 -- where a loop over the requests starts and ends
-pub well-formed-start : (d : Bytes) → true ≡ not (malformed (seriesOf d)) → WellFormedFrom d seriesAt
-unfolding seriesOf
-well-formed-start d q = not-true _ (sym q)
-
 pub requests-start : (d : Bytes) → requests d ≡ requestsFrom d seriesAt
 unfolding requests seriesOf requestsFrom
 requests-start d = refl

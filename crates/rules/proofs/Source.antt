@@ -1,6 +1,7 @@
 -- Laws of the source's types. A type's number is below 8, so the list of a function's eight first values, which antt computes,
 -- says what the function is at each; and a reply has the fields of the answer that it stands for.
 use mathlib.Core.Path.{_≡_, refl, sym, ap, _∙_}
+use mathlib.Core.Logic.{_≢_}
 use mathlib.Core.List.{List, [], _∷_}
 use mathlib.Core.Bool.{Bool, true, false, _&&_}
 use mathlib.Core.Option.{Option, none, some}
@@ -15,7 +16,7 @@ use Rattle.rules.specs.Words.{Bytes}
 use Rattle.rules.specs.Capabilities.{Kind, call, register, delete, setEntry, write, kinds, number, kindAmong, kindOf, wordCount, greatestWords}
 use Rattle.rules.specs.Messages.{payloadAt, dataOf, payloadOf}
 use Rattle.rules.specs.Answers.{codeBytes, Answer, refused, done, called, registered, looked, fields}
-use Rattle.rules.specs.Source.{isKind, wordsOf, refusedReply, replyOf, OwnPayload, fieldsWith, fieldsOf}
+use Rattle.rules.specs.Source.{isKind, wordsOf, HasWords, refusedReply, replyOf, OwnPayload, fieldsWith, fieldsOf}
 use Rattle.rules.specs.declared.Answer.{Answer as Case}
 use Rattle.rules.specs.declared.Answer.the-variants.{Refused, Done, Called, Registered, Looked}
 use Rattle.rules.specs.declared.Reply.{Reply}
@@ -74,6 +75,26 @@ words-bounded n = go (kindOf n)
     go (some delete) = omega arith
     go (some setEntry) = omega arith
     go (some write) = omega arith
+
+-- the words of a type by its number
+pub has-words : {n : ℕ} (k : ℕ) → n ≡ k → HasWords n (wordsOf k)
+has-words k e = record { count = ap wordsOf (sym e); bounded = words-bounded k }
+
+-- a number that names none of the five types has no words
+pub has-none : (n : ℕ) → n ≢ 3 → n ≢ 4 → n ≢ 5 → n ≢ 6 → n ≢ 7 → HasWords n 0
+unfolding wordsOf kindOf kindAmong number
+has-none n a b c d e = record { count = sym (rw (none-of, wordsOf)); bounded = omega arith }
+  where
+    passed : (kind : Kind) (more : List Kind) → n ≢ number kind → kindAmong (kind ∷ more) n ≡ kindAmong more n
+    passed kind more other = rw (ne-eqb (number kind) n (λ q. other (sym q)), kindAmong)
+
+    none-of : kindOf n ≡ none
+    none-of =
+        passed call (register ∷ delete ∷ setEntry ∷ write ∷ []) a
+        ∙ passed register (delete ∷ setEntry ∷ write ∷ []) b
+        ∙ passed delete (setEntry ∷ write ∷ []) c
+        ∙ passed setEntry (write ∷ []) d
+        ∙ passed write [] e
 
 -- the payload is the message from byte 65 on
 pub payload-from : (m : Bytes) → payloadOf (dataOf m) ≡ drop (1 + payloadAt) m

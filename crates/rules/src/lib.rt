@@ -81,16 +81,28 @@ impl Kind {
         type_number <= Kind::WRITE.0
     }
 
-    // How many words a capability of the type has; 0 if the number names no type.
+    // How many words a capability of the type has; 0 if the number names no type. Every record of a capability asks, so each type is
+    // asked for by name: where the index is known, no array is laid out.
     pub fn words(self) -> usize
         ensures { λ r. ⌜ HasWords (self .0) r ⌝ }
     {
-        let type_number = self.0 as usize;
-        if type_number < TYPES {
-            WORDS[type_number]
-        } else {
-            0
+        let type_number = self.0;
+        if type_number == Kind::CALL.0 {
+            return WORDS[Kind::CALL.0 as usize];
         }
+        if type_number == Kind::REGISTER.0 {
+            return WORDS[Kind::REGISTER.0 as usize];
+        }
+        if type_number == Kind::DELETE.0 {
+            return WORDS[Kind::DELETE.0 as usize];
+        }
+        if type_number == Kind::SET_ENTRY.0 {
+            return WORDS[Kind::SET_ENTRY.0 as usize];
+        }
+        if type_number == Kind::WRITE.0 {
+            return WORDS[Kind::WRITE.0 as usize];
+        }
+        0
     }
 
     // How many bytes of data a message of the type has at least; 0 if the number names no type.

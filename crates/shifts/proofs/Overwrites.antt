@@ -1,14 +1,14 @@
--- Loops that write bytes over others: copy, clear and the shifts. The invariant says which bytes are the new ones and that
+-- Loops that write bytes over others: copy, clear and the shift. The invariant says which bytes are the new ones and that
 -- the others are still the old ones; a turn stores one new byte.
 use Prim.Native.Nat.{ℕ, suc, _+_, _-_, _≤_, _<_}
-use native.Mathlib.Nat.{add-comm, zero-add, suc-add}
+use native.Mathlib.Nat.{add-comm}
 use native.Mathlib.Numerals.{add-one}
 use native.Mathlib.Omega.{arith}
 use mathlib.Core.Path.{_≡_, refl, sym, ap, _∙_}
-use mathlib.Core.List.{_∷_, _++_, append-nil}
-use lib.ListN.{length, getD, take, drop, set, replicate, drop-of-length-le, getD-replicate, List·getD-append}
-use lib.ListN.{length-replicate, length-take, length-drop, length-set}
-use lib.Seq.{drop-cons, take-suc, set-at, length-take-le, append-snoc, take-all, getD-append-add, getD-drop, getD-take}
+use mathlib.Core.List.{_++_, append-nil}
+use lib.ListN.{length, getD, take, drop, set, replicate, drop-of-length-le, getD-replicate}
+use lib.ListN.{length-replicate, length-drop, length-set}
+use lib.Seq.{drop-cons, take-suc, set-at, length-take-le, append-snoc, take-all, getD-append-add, getD-drop}
 use Rattle.rules.specs.Words.{Bytes}
 
 -- From the front: the first i bytes are the new ones.
@@ -83,51 +83,3 @@ pub left-end : (n : ℕ) {new old bs : Bytes} {i : ℕ} → new ≡ drop n old �
 left-end n {new} {old} {bs} {i} e f h =
     let l : length new ≡ length old - n = ap length e ∙ length-drop n old in
     front-end f (omega arith) ∙ rw (l, e)
-
--- A shift to the right by n, from the end: the bytes before i + n are the old ones.
-pub record Back (n : ℕ) (old bs : Bytes) (i : ℕ) : Type 0 where
-  pub within : i + n ≤ length old
-  pub size : length bs ≡ length old
-  pub is : bs ≡ take (i + n) old ++ drop i (take (length old - n) old)
-
-pub back-start : (n : ℕ) (old : Bytes) → n ≤ length old → Back n old old (length old - n)
-back-start n old h =
-    let i : ℕ = length old - n in
-    let k : length old ≤ i + n = omega arith in
-    let l : length (take i old) ≤ i = simp length-take (omega arith) in
-    record {
-      within = omega arith;
-      size = refl;
-      is = sym (rw (take-all (i + n) old k, drop-of-length-le (take i old) l) (append-nil old));
-    }
-
-pub back-turn : (j : ℕ) {n : ℕ} {old bs : Bytes} {i : ℕ} → Back n old bs i → i ≡ suc j → Back n old (set bs (j + n) (getD bs j 0)) j
-back-turn j {n} {old} {bs} {i} b e =
-    record { within = omega arith; size = simp length-set (b .size); is = rw (moved, split, drop-cons new j 0 below) stored }
-  where
-    new : Bytes
-    new = take (length old - n) old
-
-    inside : j + n < length old
-    inside = omega (arith, b .within)
-
-    below : j < length new
-    below = simp length-take (omega (arith, b .within))
-
-    split : bs ≡ take (j + n) old ++ (getD old (j + n) 0 ∷ drop (suc j) new)
-    split = b .is ∙ rw (e, suc-add j n, take-suc old (j + n) 0 inside, append-snoc)
-
-    moved : getD bs j 0 ≡ getD new j 0
-    moved =
-        let front : j < length (take (i + n) old) = simp length-take (omega (arith, b .within)) in
-        ap (λ (x : Bytes). getD x j 0) (b .is)
-        ∙ List·getD-append (take (i + n) old) (drop i new) 0 j front
-        ∙ getD-take (i + n) old j 0 (omega arith)
-        ∙ sym (getD-take (length old - n) old j 0 (omega (arith, b .within)))
-
-    stored : set (take (j + n) old ++ (getD old (j + n) 0 ∷ drop (suc j) new)) (j + n) (getD new j 0)
-        ≡ take (j + n) old ++ (getD new j 0 ∷ drop (suc j) new)
-    stored = set-at (take (j + n) old) _ _ _ (j + n) (length-take-le (j + n) old (omega (arith, inside)))
-
-pub back-end : {n : ℕ} {old bs : Bytes} {i : ℕ} → Back n old bs i → i ≤ 0 → bs ≡ take n old ++ take (length old - n) old
-back-end {n} {old} {bs} {i} b h = let z : i ≡ 0 = omega arith in b .is ∙ rw (z, zero-add n)

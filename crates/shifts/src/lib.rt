@@ -1,20 +1,8 @@
-// Bytes shifted in a slice.
+// Bytes shifted to the left in a slice.
 ghost use mathlib.Core.Path.{_≡_};
 ghost use mathlib.Core.List.{_++_};
 ghost use Prim.Native.Nat.{_-_, _≤_};
-ghost use lib.ListN.{length, take, drop};
-
-// Every byte n places to the right, from the end: the last n go, and the first n stay.
-pub fn shift_right(bytes: &mut [u8], n: usize)
-    requires { ⌜ n ≤ length (now bytes) ⌝ }
-    ensures { λ _. ⌜ now (bytes .exit) ≡ take n (now (bytes .entry)) ++ take (length (now (bytes .entry)) - n) (now (bytes .entry)) ⌝ }
-{
-    let mut i = bytes.len() - n;
-    while 0 < i {
-        i -= 1;
-        bytes[i + n] = bytes[i];
-    }
-}
+ghost use lib.ListN.{length, drop};
 
 // Every byte n places to the left, from the start: the first n go, and the last n stay.
 pub fn shift_left(bytes: &mut [u8], n: usize)

@@ -1,5 +1,6 @@
 -- A table is its records' bytes and then zeros. It can be cut at every record, so what moving bytes leaves of it is again the
--- bytes of records and then zeros: of those with one put in, of those without some, of those with another value.
+-- bytes of records and then zeros: of those with one put in, of those without some, of those with another value. Where room is made
+-- zeros stand between them too.
 use Prim.Native.Nat.{ℕ, suc, _+_, _*_, _-_, _≤_, _<_}
 use native.Mathlib.Omega.{arith}
 use mathlib.Core.Path.{_≡_, sym, ap, _∙_}
@@ -12,7 +13,7 @@ use Rattle.laws.proofs.Words.{length-word}
 use Rattle.laws.proofs.Tables.{length-records}
 use Rattle.laws.proofs.TableRecords.{records-append}
 use Rattle.closing.specs.Closing.{closed}
-use Rattle.gaps.specs.Gaps.{inserted, replaced}
+use Rattle.gaps.specs.Gaps.{inserted, replaced, opened}
 
 zeros : ℕ → Bytes
 zeros n = replicate n 0
@@ -54,6 +55,14 @@ module _ (t : Bytes) (s : Store) (m : ℕ) (e : t ≡ recordBytes s ++ replicate
   inserted-is i k v h l =
       let behind : drop (64 * length s + 64) t ≡ replicate (m - 64) 0 = sym (drop-drop 64 (64 * length s) t) ∙ rw rest-cut (drop-zeros 64 m l) in
       rw (take-cut t s m i e h, back-cut t s m i e h, behind, records-append (take i s) (k holds v ∷ drop i s)) (simp append-assoc)
+
+  pub opened-is : (i n : ℕ) → i ≤ length s → 64 * n ≤ m
+      → opened i n (length s) t ≡ recordBytes (take i s) ++ (replicate (64 * n) 0 ++ (recordBytes (drop i s) ++ replicate (m - 64 * n) 0))
+  unfolding opened zeros
+  opened-is i n h l =
+      let behind : drop (64 * length s + 64 * n) t ≡ replicate (m - 64 * n) 0
+      = sym (drop-drop (64 * n) (64 * length s) t) ∙ rw rest-cut (drop-zeros (64 * n) m l) in
+      rw (take-cut t s m i e h, back-cut t s m i e h, behind)
 
   pub closed-is : (i j : ℕ) → i ≤ j → j ≤ length s
       → closed i j (length s) t ≡ recordBytes (take i s ++ drop j s) ++ replicate (64 * j - 64 * i + m) 0

@@ -1,8 +1,10 @@
 // Whether lent bytes have the record form, and how many records are then occupied.
 ghost use mathlib.Core.Path.{_≡_};
+ghost use Prim.Native.Nat.{_+_, _*_, _≤_};
 ghost use lib.ListN.{length};
-ghost use Rattle.rules.specs.Table.{store, ascending};
-ghost use Rattle.table.specs.Tables.{formOf};
+ghost use Rattle.rules.specs.Words.{wordBytes};
+ghost use Rattle.rules.specs.Table.{recordSize};
+ghost use Rattle.table.specs.Tables.{climbsAt, runOf, formOf};
 
 // How many records are occupied, or that the table lacks the record form.
 pub enum Form {
@@ -10,36 +12,35 @@ pub enum Form {
     Bad,
 }
 
-// How many records are occupied: those before the first whose value is zero.
-fn count(t: &[u8]) -> usize
-    ensures { λ r. ⌜ r ≡ length (store (now (t .entry))) ⌝ }
+// Whether the i-th key is above the one before it; the first has none before it.
+fn climbs(t: &[u8], i: usize) -> bool
+    requires { ⌜ recordSize * i + wordBytes ≤ length (now t) ⌝ }
+    ensures { λ r. ⌜ r ≡ climbsAt (now (t .entry)) i ⌝ }
+{
+    if i == 0 {
+        return true;
+    }
+    let before = moves::word_at(t, rules::RECORD_SIZE * (i - 1));
+    words::below(before, moves::word_at(t, rules::RECORD_SIZE * i))
+}
+
+// How many records are occupied, those before the first whose value is zero, if their keys ascend.
+fn run(t: &[u8]) -> Form
+    ensures { λ r. ⌜ r ≡ runOf (now (t .entry)) ⌝ }
 {
     let n = t.len() / rules::RECORD_SIZE;
     let mut i = 0;
     while i < n {
         if words::is_zero(moves::word_at(t, rules::RECORD_SIZE * i + rules::WORD_BYTES)) {
-            return i;
+            return Form::Used(i);
         }
-        i += 1;
-    }
-    n
-}
-
-// Whether the keys of the occupied records ascend.
-fn ascending(t: &[u8], used: usize) -> bool
-    requires { ⌜ used ≡ length (store (now t)) ⌝ }
-    ensures { λ r. ⌜ r ≡ ascending (store (now (t .entry))) ⌝ }
-{
-    let mut i = 1;
-    while i < used {
-        let before = moves::word_at(t, rules::RECORD_SIZE * (i - 1));
-        if words::below(before, moves::word_at(t, rules::RECORD_SIZE * i)) {
+        if climbs(t, i) {
             i += 1;
         } else {
-            return false;
+            return Form::Bad;
         }
     }
-    true
+    Form::Used(n)
 }
 
 // Whether a table has the record form, and how many records are then occupied.
@@ -52,12 +53,15 @@ pub fn form_of(t: &[u8]) -> Form
     if rules::GREATEST_TABLE < t.len() {
         return Form::Bad;
     }
-    let used = count(t);
-    let end = rules::RECORD_SIZE * used;
-    if ascending(t, used) {
-        if words::is_zero(&t[end..]) {
-            return Form::Used(used);
+    match run(t) {
+        Form::Used(used) => {
+            let end = rules::RECORD_SIZE * used;
+            if words::is_blank(&t[end..]) {
+                Form::Used(used)
+            } else {
+                Form::Bad
+            }
         }
+        Form::Bad => Form::Bad,
     }
-    Form::Bad
 }

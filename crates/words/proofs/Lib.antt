@@ -1,4 +1,3 @@
-pub mod Orders
 pub mod Compares
 pub mod LastLimb
 pub mod OneHolds

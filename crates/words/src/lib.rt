@@ -1,4 +1,5 @@
 // Words in slices: 32 bytes, most significant first. They are compared as whole numbers.
+pub use equality::is_blank;
 pub use equality::is_zero;
 pub use equality::same;
 pub use sums::sums_at_most;
@@ -7,48 +8,26 @@ ghost use Prim.Native.Nat.{min};
 ghost use lib.Dec.{leb, ltb};
 ghost use lib.ListN.{length};
 ghost use Rattle.rules.specs.Words.{wordBytes, num};
-ghost use Rattle.words.specs.Words.{orderOf, smallLimit};
-
-pub enum Order {
-    Less,
-    Equal,
-    Greater,
-}
+ghost use Rattle.words.specs.Words.{smallLimit};
 
 // Where a word's last limb is.
 const LAST_LIMB: usize = rules::WORD_BYTES - limbs::LIMB_BYTES;
 
-// How word a lies to word b: the first of the four limbs that differs decides.
-pub fn compare(a: &[u8], b: &[u8]) -> Order
+// Whether word a is less than word b: the first of the four limbs that differs decides.
+pub fn below(a: &[u8], b: &[u8]) -> bool
     requires { ⌜ (length (now a) ≡ wordBytes) × (length (now b) ≡ wordBytes) ⌝ }
-    ensures { λ r. ⌜ r ≡ orderOf (num (now (a .entry))) (num (now (b .entry))) ⌝ }
+    ensures { λ r. ⌜ r ≡ ltb (num (now (a .entry))) (num (now (b .entry))) ⌝ }
 {
     let mut at = 0;
     while at < rules::WORD_BYTES {
         let x = limbs::long_limb(a, at);
         let y = limbs::long_limb(b, at);
-        if x < y {
-            return Order::Less;
-        }
-        if y < x {
-            return Order::Greater;
+        if x != y {
+            return x < y;
         }
         at += limbs::LONG_LIMB_BYTES;
     }
-    Order::Equal
-}
-
-// Whether word a is less than word b.
-pub fn below(a: &[u8], b: &[u8]) -> bool
-    requires { ⌜ (length (now a) ≡ wordBytes) × (length (now b) ≡ wordBytes) ⌝ }
-    ensures { λ r. ⌜ r ≡ ltb (num (now (a .entry))) (num (now (b .entry))) ⌝ }
-{
-    let order = compare(a, b);
-    match order {
-        Order::Less => true,
-        Order::Equal => false,
-        Order::Greater => false,
-    }
+    false
 }
 
 // Whether word a is at most word b.

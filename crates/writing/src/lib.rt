@@ -1,10 +1,9 @@
-// Text written into a lent buffer: a character, bytes in hex, a number in decimal. Each function is told where the text begins and
-// returns where it ends.
-ghost use Prim.Native.Nat.{_+_, _*_, _/_, _%_, _≤_, _<_};
+// Text written into a lent buffer: a character, bytes in hex. Each function is told where the text begins and returns where it ends.
+ghost use Prim.Native.Nat.{_+_, _*_, _≤_, _<_};
 ghost use mathlib.Core.Path.{_≡_};
 ghost use mathlib.Core.List.{[], _∷_};
 ghost use lib.ListN.{length};
-ghost use Rattle.rules.specs.Program.{hexDigit, hex, decimal};
+ghost use Rattle.rules.specs.Program.{hexDigit, hex};
 ghost use Rattle.writing.specs.Wrote.{Wrote};
 
 // One character.
@@ -49,24 +48,4 @@ pub fn put_hex(out: &mut [u8], at: usize, bytes: &[u8]) -> usize
         i += 1;
     }
     end
-}
-
-// The last digit of a number in decimal.
-fn last_digit(n: u64) -> u8
-    ensures { λ r. ⌜ r ≡ 0x30 + n % 10 ⌝ }
-{
-    b'0' + (n % 10) as u8
-}
-
-// A number in decimal: the digits before its last, then that one.
-pub fn put_decimal(out: &mut [u8], at: usize, n: u64) -> usize
-    requires { ⌜ at + length (decimal n) ≤ length (now out) ⌝ }
-    ensures { λ r. ⌜ Wrote (now (out .entry)) at (decimal n) r (now (out .exit)) ⌝ }
-{
-    let last = last_digit(n);
-    if n < 10 {
-        return put(out, at, last);
-    }
-    let end = put_decimal(out, at, n / 10);
-    put(out, end, last)
 }

@@ -1,6 +1,6 @@
--- Three calls, one after the other: the records that are left after the last are none.
+-- Two calls, one after the other: what the second asks is what the first leaves (`new-needs`).
+use Rattle.appending.proofs.First.{place-takes, new-needs, appended}
 use borrow.Author.Needs.{needs}
-use Rattle.appending.proofs.First.{place-takes, own-takes, kinds-needs, appended}
 use Rattle.appending.proofs.append.Statement.{statement}
 use Rattle.appending.proofs.append.Tie as tie
 
@@ -12,28 +12,19 @@ put-place-requires c κs =
     let need = c .before .before .before .before .before .pre in
     (place-takes need, need .key)
 
-put-own-requires : tie.Need-put-own-requires
-put-own-requires c κs =
+insert-procedure-requires : tie.Need-insert-procedure-requires
+insert-procedure-requires c κs =
     let place = c .before .before .before in
-    let need = place .before .before .before .before .before .before .pre in
-    (own-takes need (place .put-place .ensures), (need .key, need .word))
-
-put-kinds-requires : tie.Need-put-kinds-requires
-put-kinds-requires c κs =
-    let own = c .before .before .before in
-    let place = own .before .before .before .before in
-    kinds-needs (place .before .before .before .before .before .before .pre) (place .put-place .ensures) (own .put-own .ensures)
+    new-needs (place .before .before .before .before .before .before .pre) (place .put-place .ensures)
 
 same-length : tie.Need-same-length
 same-length c = search needs
 
 returns : tie.Need-returns
 returns c =
-    let own = c .before .before .before .before .before .before in
-    let place = own .before .before .before .before in
-    appended (place .before .before .before .before .before .before .pre) (place .put-place .ensures) (own .put-own .ensures) (c .before .before .put-kinds .ensures)
+    let place = c .before .before .before .before .before .before in
+    appended (place .before .before .before .before .before .before .pre) (place .put-place .ensures) (c .before .before .insert-procedure .ensures)
 
 pub append-spec : {M : Type 1} → statement M
 append-spec =
-    tie.close
-    (tie.spec add-place put-place-requires put-own-requires put-kinds-requires same-length returns)
+    tie.close (tie.spec add-place put-place-requires insert-procedure-requires same-length returns)

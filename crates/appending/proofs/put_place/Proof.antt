@@ -1,7 +1,7 @@
--- Two stores, one after the other.
+-- Two stores, one after the other: the room that the second needs is what the first leaves of it (`Left`).
 use mathlib.Core.Path.{refl}
 use borrow.Author.Needs.{needs}
-use Rattle.appending.proofs.Left.{left-all, left-none, left-ready, left-put}
+use Rattle.capability_records.proofs.Left.{left-all, left-none, left-ready, left-put}
 use Rattle.appending.proofs.put_place.Statement.{statement}
 use Rattle.appending.proofs.put_place.Tie as tie
 

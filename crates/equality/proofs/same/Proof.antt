@@ -1,39 +1,64 @@
--- The invariant is `Gathered`: the differences so far are zero exactly where the numbers of the first i bytes are the same.
+-- The invariant is `Agree`: the first bytes, up to the offset, are the same. Limbs that differ decide, and at the end the last ones.
 use Prim.Native.Nat.{_-_}
-use lib.ListN.{length}
 use borrow.Author.Needs.{needs}
-use Rattle.equality.proofs.Differences.{Gathered, gathered-none, gathered-more, gathered-all}
+use Rattle.laws.proofs.Numerals.{all-bytes}
+use Rattle.equality.proofs.ByLimbs.{Agree, agree-none, agree-more, agree-all, limbs-differ}
 use Rattle.equality.proofs.same.Statement.{statement}
 use Rattle.equality.proofs.same.Tie as tie
 
 abbrev Inv-loop : tie.InvT-loop
-Inv-loop a b differences₀ i₀ differences i = Gathered a b differences i
+Inv-loop a b last at₀ at = Agree a b last at
 
 abbrev μ-loop : tie.MeasureT-loop
-μ-loop a b differences₀ i₀ differences i = length a - i
+μ-loop a b last at₀ at = last - at
+
+same-bytes-requires : tie.Need-same-bytes-requires Inv-loop μ-loop
+same-bytes-requires c κs = search needs
+
+returns : tie.Need-returns Inv-loop μ-loop
+returns c = search needs
+
+sub-last : tie.Need-sub-last Inv-loop μ-loop
+sub-last c = search needs
 
 loop-holds : tie.Need-loop-holds Inv-loop μ-loop
-loop-holds c = gathered-none (search needs)
+loop-holds c =
+    let s = c .before .before .before .args in
+    agree-none
+    (all-bytes (s .a .now) (λ k. c .before .before .shared-slice-known .given k .fits))
+    (all-bytes (s .b .now) (λ k. c .before .shared-slice-known2 .given k .fits))
+    (search needs) (search needs)
 
-shared-slice-read-differences : tie.Need-shared-slice-read-differences Inv-loop μ-loop
-shared-slice-read-differences c = search needs
+long-limb-requires : tie.Need-long-limb-requires Inv-loop μ-loop
+long-limb-requires c κs = search needs
 
-shared-slice-read-differences-2 : tie.Need-shared-slice-read-differences-2 Inv-loop μ-loop
-shared-slice-read-differences-2 c = search needs
+long-limb-requires-2 : tie.Need-long-limb-requires-2 Inv-loop μ-loop
+long-limb-requires-2 c κs = search needs
 
-add-i : tie.Need-add-i Inv-loop μ-loop
-add-i c = search needs
+returns-2 : tie.Need-returns-2 Inv-loop μ-loop
+returns-2 c =
+    limbs-differ (c .before .before .before .before .loop .inv) (search needs)
+    (c .before .before .long-limb .ensures) (c .before .long-limb2 .ensures) (c .if2 .taken)
+
+add-at : tie.Need-add-at Inv-loop μ-loop
+add-at c = search needs
 
 loop-less : tie.Need-loop-less Inv-loop μ-loop
 loop-less c = search needs
 
 loop-again : tie.Need-loop-again Inv-loop μ-loop
 loop-again c =
-    gathered-more (c .before .before .before .loop .inv) (search needs)
-    (c .before .shared-slice-known .given _ .fits) (c .shared-slice-known2 .given _ .fits)
+    agree-more (c .before .before .before .before .loop .inv) (search needs)
+    (c .before .before .long-limb .ensures) (c .before .long-limb2 .ensures) (c .if2 .left)
 
-returns : tie.Need-returns Inv-loop μ-loop
-returns c = gathered-all (c .before .loop .inv) (search needs)
+long-limb-requires-3 : tie.Need-long-limb-requires-3 Inv-loop μ-loop
+long-limb-requires-3 c κs = search needs
+
+long-limb-requires-4 : tie.Need-long-limb-requires-4 Inv-loop μ-loop
+long-limb-requires-4 c κs = search needs
+
+returns-3 : tie.Need-returns-3 Inv-loop μ-loop
+returns-3 c = agree-all (c .before .before .before .loop .inv) (search needs) (c .before .long-limb3 .ensures) (c .long-limb4 .ensures)
 
 pub same-spec : {M : Type 1} → statement M
 same-spec =
@@ -41,10 +66,16 @@ same-spec =
     (tie.spec
     Inv-loop
     μ-loop
+    same-bytes-requires
+    returns
+    sub-last
     loop-holds
-    shared-slice-read-differences
-    shared-slice-read-differences-2
-    add-i
+    long-limb-requires
+    long-limb-requires-2
+    returns-2
+    add-at
     loop-less
     loop-again
-    returns)
+    long-limb-requires-3
+    long-limb-requires-4
+    returns-3)

@@ -17,19 +17,19 @@ put-fixed-requires c κs =
 right-word-requires : tie.Need-right-word-requires
 right-word-requires c κs = search needs
 
-slice-aggregate-append : tie.Need-slice-aggregate-append
-slice-aggregate-append c = search needs
-
 first-series-requires : tie.Need-first-series-requires
 first-series-requires c κs = search needs
+
+slice-aggregate-append : tie.Need-slice-aggregate-append
+slice-aggregate-append c = search needs
 
 slice-aggregate-append-2 : tie.Need-slice-aggregate-append-2
 slice-aggregate-append-2 c = search needs
 
 append-requires : tie.Need-append-requires
 append-requires c κs =
-    let series = c .before in
-    let word = series .before .before .before in
+    let series = c .before .before .before in
+    let word = series .before in
     let fixed = word .before .before .before in
     let clear = fixed .before .before .before .before in
     let start = clear .before .before .before .before .before .before in
@@ -42,8 +42,8 @@ same-length c = search needs
 returns : tie.Need-returns
 returns c =
     let append = c .before .before in
-    let series = append .before .before in
-    let word = series .before .before .before in
+    let series = append .before .before .before .before in
+    let word = series .before in
     let fixed = word .before .before .before in
     let clear = fixed .before .before .before .before in
     let start = clear .before .before .before .before .before .before in
@@ -57,8 +57,8 @@ found-spec =
     clear-requires
     put-fixed-requires
     right-word-requires
-    slice-aggregate-append
     first-series-requires
+    slice-aggregate-append
     slice-aggregate-append-2
     append-requires
     same-length

@@ -31,32 +31,32 @@ shift-right-requires c κs = search needs
 add-middle : tie.Need-add-middle
 add-middle c = search needs
 
-sub-copy : tie.Need-sub-copy
-sub-copy c = search needs
+sub-copy-word : tie.Need-sub-copy-word
+sub-copy-word c = search needs
 
-part-copy-start : tie.Need-part-copy-start
-part-copy-start c = search needs
+part-copy-word-start : tie.Need-part-copy-word-start
+part-copy-word-start c = search needs
 
-part-copy-end : tie.Need-part-copy-end
-part-copy-end c = search needs
+part-copy-word-end : tie.Need-part-copy-word-end
+part-copy-word-end c = search needs
 
-copy-requires : tie.Need-copy-requires
-copy-requires c κs = search needs
+copy-word-requires : tie.Need-copy-word-requires
+copy-word-requires c κs = search needs
 
 add-stop : tie.Need-add-stop
 add-stop c = search needs
 
-sub-copy-2 : tie.Need-sub-copy-2
-sub-copy-2 c = search needs
+sub-copy-word-2 : tie.Need-sub-copy-word-2
+sub-copy-word-2 c = search needs
 
-part-copy-start-2 : tie.Need-part-copy-start-2
-part-copy-start-2 c = search needs
+part-copy-word-start-2 : tie.Need-part-copy-word-start-2
+part-copy-word-start-2 c = search needs
 
-part-copy-end-2 : tie.Need-part-copy-end-2
-part-copy-end-2 c = search needs
+part-copy-word-end-2 : tie.Need-part-copy-word-end-2
+part-copy-word-end-2 c = search needs
 
-copy-requires-2 : tie.Need-copy-requires-2
-copy-requires-2 c κs = search needs
+copy-word-requires-2 : tie.Need-copy-word-requires-2
+copy-word-requires-2 c κs = search needs
 
 same-length : tie.Need-same-length
 same-length c = search needs
@@ -66,8 +66,8 @@ unfolding inserted
 returns c =
     let a = c .before .before .before .before .before .before .before .before .before .before .before .before .before .before .before .args in
     let shift = c .before .before .before .before .before .before .before .before .before .before .shift-right in
-    let first = c .before .before .before .before .before .before .copy in
-    let second = c .before .before .copy2 in
+    let first = c .before .before .before .before .before .before .copy-word in
+    let second = c .before .before .copy-word2 in
     insert-leaves (a .t .now) (shift .last .0) (a .key .now) (a .value .now) (first .last .0) (second .last .0) (64 * a .i) (64 * a .used) (omega arith) (omega arith)
     (shift .ensures) (first .ensures) (second .ensures) (search needs) (search needs)
 
@@ -83,14 +83,14 @@ insert-spec =
     part-shift-right-end
     shift-right-requires
     add-middle
-    sub-copy
-    part-copy-start
-    part-copy-end
-    copy-requires
+    sub-copy-word
+    part-copy-word-start
+    part-copy-word-end
+    copy-word-requires
     add-stop
-    sub-copy-2
-    part-copy-start-2
-    part-copy-end-2
-    copy-requires-2
+    sub-copy-word-2
+    part-copy-word-start-2
+    part-copy-word-end-2
+    copy-word-requires-2
     same-length
     returns)

@@ -19,17 +19,17 @@ mul-end c = search needs
 add-end : tie.Need-add-end
 add-end c = search needs
 
-sub-copy : tie.Need-sub-copy
-sub-copy c = search needs
+sub-copy-word : tie.Need-sub-copy-word
+sub-copy-word c = search needs
 
-part-copy-start : tie.Need-part-copy-start
-part-copy-start c = search needs
+part-copy-word-start : tie.Need-part-copy-word-start
+part-copy-word-start c = search needs
 
-part-copy-end : tie.Need-part-copy-end
-part-copy-end c = search needs
+part-copy-word-end : tie.Need-part-copy-word-end
+part-copy-word-end c = search needs
 
-copy-requires : tie.Need-copy-requires
-copy-requires c κs = search needs
+copy-word-requires : tie.Need-copy-word-requires
+copy-word-requires c κs = search needs
 
 same-length : tie.Need-same-length
 same-length c = search needs
@@ -38,7 +38,7 @@ returns : tie.Need-returns
 unfolding replaced
 returns c =
     let a = c .before .before .before .before .before .before .args in
-    let copy = c .before .before .copy in
+    let copy = c .before .before .copy-word in
     replace-leaves (a .t .now) (a .value .now) (copy .last .0) (64 * a .i + 32) (64 * a .i + 64) (omega arith) (copy .ensures)
 
 pub replace-spec : {M : Type 1} → statement M
@@ -49,9 +49,9 @@ replace-spec =
     add-at
     mul-end
     add-end
-    sub-copy
-    part-copy-start
-    part-copy-end
-    copy-requires
+    sub-copy-word
+    part-copy-word-start
+    part-copy-word-end
+    copy-word-requires
     same-length
     returns)

@@ -1,4 +1,5 @@
--- The loop keeps `Going`: the requests before are contained, and their tests are counted.
+-- The loop keeps `Going`: the requests before are contained, and their tests are counted. What was read for them is kept
+-- for the next search.
 use Prim.Native.Nat.{_-_}
 use native.Mathlib.Omega.{arith}
 use lib.ListN.{length}
@@ -11,10 +12,10 @@ use Rattle.grants.proofs.judge_requests.Statement.{statement}
 use Rattle.grants.proofs.judge_requests.Tie as tie
 
 abbrev Inv-loop : tie.InvT-loop
-Inv-loop t used d registrar tests₀ at₀ tests at = Going (store t) d (num registrar) at tests
+Inv-loop t used d registrar copies₀ reading₀ tests₀ at₀ copies reading tests at = Going (store t) d (num registrar) copies reading at tests
 
 abbrev μ-loop : tie.MeasureT-loop
-μ-loop t used d registrar tests₀ at₀ tests at = length d - at
+μ-loop t used d registrar copies₀ reading₀ tests₀ at₀ copies reading tests at = length d - at
 
 current-requires : tie.Need-current-requires Inv-loop μ-loop
 current-requires c κs = search needs
@@ -25,14 +26,30 @@ slice-aggregate-key-part c = search needs
 key-part-requires : tie.Need-key-part-requires Inv-loop μ-loop
 key-part-requires c κs = search needs
 
+no-copies-requires : tie.Need-no-copies-requires Inv-loop μ-loop
+no-copies-requires c κs = search needs
+
+unread-requires : tie.Need-unread-requires Inv-loop μ-loop
+unread-requires c κs =
+    let part = c .before in
+    let holder = part .before .before in
+    let start = holder .before .before .before in
+    holder-readable (start .pre .0) (holder .current .ensures) (part .key-part .ensures)
+
 loop-holds : tie.Need-loop-holds Inv-loop μ-loop
 loop-holds c =
-    let holder = c .before .before in
+    let made = c .before in
+    let part = made .before in
+    let holder = part .before .before in
     let start = holder .before .before .before in
-    going-starts (start .pre .0) (holder .current .ensures) (c .key-part .ensures) (start .args .d .now) (start .pre .1 .0)
+    going-starts (start .pre .0) (holder .current .ensures) (part .key-part .ensures) (c .unread .ensures) (made .no-copies .result)
+    (made .no-copies .ensures) (start .args .d .now) (start .pre .1 .0)
 
 request-at-requires : tie.Need-request-at-requires Inv-loop μ-loop
 request-at-requires c κs = (omega arith, c .before .loop .inv .rest)
+
+slice-aggregate-search-held : tie.Need-slice-aggregate-search-held Inv-loop μ-loop
+slice-aggregate-search-held c = search needs
 
 sub-search-held : tie.Need-sub-search-held Inv-loop μ-loop
 sub-search-held c = search needs
@@ -45,35 +62,39 @@ part-search-held-end c = search needs
 
 search-held-requires : tie.Need-search-held-requires Inv-loop μ-loop
 search-held-requires c κs =
-    let request = c .before in
+    let request = c .before .before in
     let loop = request .before .before in
-    let part = loop .before in
+    let part = loop .before .before .before in
     let holder = part .before .before in
     let start = holder .before .before .before in (
       holder-readable (start .pre .0) (holder .current .ensures) (part .key-part .ensures),
-      search-needs (start .pre .0) (loop .loop .inv) (request .request-at .ensures),
+      (search-needs (start .pre .0) (loop .loop .inv) (request .request-at .ensures), loop .loop .inv .reached),
     )
 
 add-tests : tie.Need-add-tests Inv-loop μ-loop
-add-tests c = search needs
+add-tests c =
+    let search = c .before .before .before in
+    let loop = search .before .before .before .before .before in
+    let start = loop .before .before .before .before .before .before .before .before in
+    omega (arith, loop .loop .inv .few, search .search-held .ensures .small, search .before .before .before .before .loop-test .taken, start .pre .1 .1)
 
 loop-less : tie.Need-loop-less Inv-loop μ-loop
 loop-less c = search needs
 
 loop-again : tie.Need-loop-again Inv-loop μ-loop
 loop-again c =
-    let search = c .before in
-    let request = search .before .before in
+    let search = c .before .before .before in
+    let request = search .before .before .before in
     let loop = request .before .before in
-    let start = loop .before .before .before .before .before .before in
+    let start = loop .before .before .before .before .before .before .before .before in
     going-on (start .pre .0) (loop .loop .inv) (request .request-at .ensures) (search .search-held .ensures) (c .if1 .taken)
 
 returns : tie.Need-returns Inv-loop μ-loop
 returns c =
-    let search = c .before in
-    let request = search .before .before in
+    let search = c .before .before .before in
+    let request = search .before .before .before in
     let loop = request .before .before in
-    let start = loop .before .before .before .before .before .before in
+    let start = loop .before .before .before .before .before .before .before .before in
     not-granted (start .pre .0) (loop .loop .inv) (request .request-at .ensures) (search .search-held .ensures) (c .if1 .left)
 
 returns-2 : tie.Need-returns-2 Inv-loop μ-loop
@@ -88,8 +109,11 @@ judge-requests-spec =
     current-requires
     slice-aggregate-key-part
     key-part-requires
+    no-copies-requires
+    unread-requires
     loop-holds
     request-at-requires
+    slice-aggregate-search-held
     sub-search-held
     part-search-held-start
     part-search-held-end

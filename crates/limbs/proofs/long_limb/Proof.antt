@@ -1,27 +1,34 @@
--- Two limbs of four bytes are one of eight.
+-- A part of eight bytes is the limb where it starts (`long-limb-part`).
 use borrow.Author.Needs.{needs}
-use Rattle.limbs.proofs.Limbs.{long-limb-pair}
+use Rattle.limbs.proofs.Limbs.{long-limb-part}
 use Rattle.limbs.proofs.long_limb.Statement.{statement}
 use Rattle.limbs.proofs.long_limb.Tie as tie
 
-limb-requires : tie.Need-limb-requires
-limb-requires c κs = search needs
+add-long-number : tie.Need-add-long-number
+add-long-number c = search needs
 
-mul-result : tie.Need-mul-result
-mul-result c = search needs
+sub-long-number : tie.Need-sub-long-number
+sub-long-number c = search needs
 
-add-limb : tie.Need-add-limb
-add-limb c = search needs
+part-long-number-start : tie.Need-part-long-number-start
+part-long-number-start c = search needs
 
-limb-requires-2 : tie.Need-limb-requires-2
-limb-requires-2 c κs = search needs
+part-long-number-end : tie.Need-part-long-number-end
+part-long-number-end c = search needs
 
-add-result : tie.Need-add-result
-add-result c = search needs
+long-number-requires : tie.Need-long-number-requires
+long-number-requires c κs = search needs
 
 returns : tie.Need-returns
-returns c = long-limb-pair (search needs) (c .before .limb .ensures) (c .limb2 .ensures)
+returns c = long-limb-part _ _ (c .long-number .ensures)
 
 pub long-limb-spec : {M : Type 1} → statement M
 long-limb-spec =
-    tie.close (tie.spec limb-requires mul-result add-limb limb-requires-2 add-result returns)
+    tie.close
+    (tie.spec
+    add-long-number
+    sub-long-number
+    part-long-number-start
+    part-long-number-end
+    long-number-requires
+    returns)

@@ -1,5 +1,5 @@
 -- The space and the digits follow each other; a number of 64 bits has at most 20.
-use Rattle.writing.proofs.Numerals.{decimal-fits}
+use Rattle.decimals.proofs.Decimals.{decimal-fits}
 use Rattle.printing.proofs.Lines.{wrote-number}
 use native.Mathlib.Omega.{arith}
 use borrow.Author.Needs.{needs}

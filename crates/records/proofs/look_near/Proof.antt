@@ -46,8 +46,8 @@ add-value-at c = omega (arith, fits c)
 word-at-requires : tie.Need-word-at-requires
 word-at-requires c κs = omega (arith, fits (c .before))
 
-copy-requires : tie.Need-copy-requires
-copy-requires c κs = search needs
+copy-word-requires : tie.Need-copy-word-requires
+copy-word-requires c κs = search needs
 
 add-result : tie.Need-add-result
 add-result c = omega (arith, fits (c .before .before .before .before .before))
@@ -65,7 +65,7 @@ returns : tie.Need-returns
 returns c =
     let w = c .before .before .before .before .before in
     let s = w .before .before .before .before .before .before .before in (
-      c .before .before .copy .ensures ∙ c .before .before .before .word-at .ensures .is ∙ look-present (s .args .t .now) _ _ (search needs) (there w),
+      c .before .before .copy-word .ensures ∙ c .before .before .before .word-at .ensures .is ∙ look-present (s .args .t .now) _ _ (search needs) (there w),
       through-present (formed (s .args .t .now) (search needs) .ascends) (there w),
     )
 
@@ -90,7 +90,7 @@ look-near-spec =
     mul-value-at
     add-value-at
     word-at-requires
-    copy-requires
+    copy-word-requires
     add-result
     enum-known-i-2
     clear-requires

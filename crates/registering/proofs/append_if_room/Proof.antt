@@ -9,17 +9,17 @@ use borrow.Author.Needs.{needs}
 use Rattle.registering.proofs.append_if_room.Statement.{statement}
 use Rattle.registering.proofs.append_if_room.Tie as tie
 
-add-needed : tie.Need-add-needed
-add-needed c =
-    let start = c .before .before in
-    let form = formed (start .args .t .now) (occupied (start .pre .0) .form) in
-    omega (arith, form .few, form .fits, start .pre .0 .count)
-
 records-needed-requires : tie.Need-records-needed-requires
 records-needed-requires c κs = search needs
 
-add-needed-2 : tie.Need-add-needed-2
-add-needed-2 c =
+add-after : tie.Need-add-after
+add-after c =
+    let start = c .before .before .before in
+    let form = formed (start .args .t .now) (occupied (start .pre .0) .form) in
+    omega (arith, form .few, form .fits, start .pre .0 .count)
+
+add-after-2 : tie.Need-add-after-2
+add-after-2 c =
     let start = c .before .before .before in
     let small = needed-small (start .pre .0) (start .args .d .now) (start .pre .1) (c .records-needed .ensures) in
     omega (arith, small)
@@ -67,9 +67,9 @@ pub append-if-room-spec : {M : Type 1} → statement M
 append-if-room-spec =
     tie.close
     (tie.spec
-    add-needed
     records-needed-requires
-    add-needed-2
+    add-after
+    add-after-2
     refused-requires
     returns
     key-of-requires

@@ -3,7 +3,7 @@ use mathlib.Core.Path.{ap, _∙_}
 use mathlib.Core.Bool.{not}
 use borrow.Author.Needs.{needs}
 use Rattle.rules.specs.Words.{num}
-use Rattle.words.proofs.Orders.{not-below}
+use Rattle.words.proofs.Compares.{not-below}
 use Rattle.words.proofs.at_most.Statement.{statement}
 use Rattle.words.proofs.at_most.Tie as tie
 

@@ -1,5 +1,5 @@
 -- Each return is a range of values.
-use Rattle.writing.proofs.Numerals.{figure, letter}
+use Rattle.writing.proofs.HexDigits.{figure, letter}
 use native.Mathlib.Omega.{arith}
 use borrow.Author.Needs.{needs}
 use Rattle.writing.proofs.digit.Statement.{statement}

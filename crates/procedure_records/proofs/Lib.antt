@@ -1,0 +1,2 @@
+pub mod AllTypes
+pub mod Own
