@@ -1,5 +1,5 @@
 /* The proved Beaker kernel, for a C host: link libbeaker.a (x86-64 Linux), which
- * `rt staticlib beaker` proves and writes to target/staticlib/.
+ * `rt check beaker && rt staticlib beaker` proves and writes to target/staticlib/.
  *
  * Each function is lent byte arrays as a pointer and a length, answers for every content and every
  * length, and keeps nothing: all state is in the table. What it assumes of its caller:
@@ -70,7 +70,7 @@ struct beaker_reply beaker_look(const uint8_t *table, size_t table_len, const ui
  *   4 Register   index, key, address; then the capabilities to the end
  *   5 Delete     index, key
  *   6 Set Entry  index, key
- *   7 Write      index, slot, value
+ *   7 Write      index, address, value
  *
  * The index says which of its capabilities of the message's type the running procedure uses,
  * counted from 0. Each capability that Register requests begins with two words: its size, which is
@@ -79,7 +79,8 @@ struct beaker_reply beaker_look(const uint8_t *table, size_t table_len, const ui
  *   3 Call, 4 Register, 5 Delete   one word: the keys that share their first bits (byte 0: how many,
  *                                  at most 24) with the key in bytes 8 to 31
  *   6 Set Entry                    nothing
- *   7 Write                        two words: the first slot, and how many more follow it
+ *   7 Write                        two words: base, the first address, and additional, how many
+ *                                  more follow it
  *
  * Only Register uses what the contract's code and the opcode mask hold, but the mask has 32 bytes
  * in every call: opcode k is allowed when bit k % 8 (the lowest is 0) of byte k / 8 is set. */

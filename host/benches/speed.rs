@@ -16,9 +16,11 @@ const LEAST_ROUNDS: usize = 7;
 const BUDGET: Duration = Duration::from_millis(250);
 
 fn main() {
-    // `cargo test` runs it too, and wants no times.
+    // `cargo test` runs it without times, and sees that both do the same.
     if !std::env::args().any(|argument| argument == "--bench") {
-        println!("`cargo bench` prints the times");
+        let cases = cases::all().into_iter().flat_map(|(_, cases)| cases);
+        let agreed = cases.inspect(agree).count();
+        println!("{agreed} calls agree; `cargo bench` prints their times");
         return;
     }
     let read = one_read();
@@ -47,8 +49,8 @@ One read of 65,536 bytes, summed as words of 64 bits, takes {read:.2}.
     );
 }
 
-/// Times one case by both, once it is seen that both do the same.
-fn measure(case: &Case, read: f64) {
+/// Sees that both do the same, which is to succeed.
+fn agree(case: &Case) {
     let (mut by_archive, mut by_peer) = (case.table.clone(), case.table.clone());
     let reply = case.call.by_archive(&mut by_archive);
     assert_eq!(reply, case.call.by_peer(&mut by_peer), "{}", case.name);
@@ -57,6 +59,11 @@ fn measure(case: &Case, read: f64) {
         "{}: {reply:?}",
         case.name
     );
+}
+
+/// Times one case by both, once it is seen that both do the same.
+fn measure(case: &Case, read: f64) {
+    agree(case);
     let archive = median(|| round(case, Call::by_archive));
     let peer = median(|| round(case, Call::by_peer));
     let (to_peer, to_read) = (archive / peer, archive / read);

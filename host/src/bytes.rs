@@ -1,5 +1,6 @@
 //! Keys, addresses and words: big-endian numbers of a fixed number of bytes.
 
+use std::array::TryFromSliceError;
 use std::fmt;
 use std::str::FromStr;
 
@@ -72,6 +73,29 @@ macro_rules! number {
             }
         }
 
+        /// Its bytes again, most significant first.
+        impl From<$name> for [u8; $bytes] {
+            fn from(number: $name) -> [u8; $bytes] {
+                number.0
+            }
+        }
+
+        /// These bytes, if they are as many as it has.
+        impl TryFrom<&[u8]> for $name {
+            type Error = TryFromSliceError;
+
+            fn try_from(bytes: &[u8]) -> Result<$name, TryFromSliceError> {
+                bytes.try_into().map($name)
+            }
+        }
+
+        /// Its bytes, most significant first.
+        impl AsRef<[u8]> for $name {
+            fn as_ref(&self) -> &[u8] {
+                &self.0
+            }
+        }
+
         /// The number stands right; the bytes before it are zero.
         impl From<u64> for $name {
             fn from(number: u64) -> $name {
@@ -127,7 +151,14 @@ number! {
     ///
     /// let address: Address = "00000000000000000000000000000000000000ff".parse()?;
     /// assert_eq!(address, Address::from(0xff));
-    /// # Ok::<(), beaker::NotHex>(())
+    ///
+    /// // Bytes that came from elsewhere, and back.
+    /// let sent = vec![0x51; 20];
+    /// let address = Address::try_from(&sent[..])?;
+    /// assert_eq!(address.as_ref(), sent);
+    /// assert_eq!(<[u8; 20]>::from(address), [0x51; 20]);
+    /// assert!(Address::try_from(&sent[1..]).is_err());
+    /// # Ok::<(), Box<dyn std::error::Error>>(())
     /// ```
     Address, 20
 }

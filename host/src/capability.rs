@@ -19,6 +19,15 @@ pub enum Kind {
 }
 
 impl Kind {
+    /// Every type that there is.
+    pub const ALL: [Kind; 5] = [
+        Kind::Call,
+        Kind::Register,
+        Kind::Delete,
+        Kind::SetEntry,
+        Kind::Write,
+    ];
+
     /// The type's number.
     pub const fn number(self) -> u8 {
         self as u8
@@ -31,6 +40,7 @@ impl Kind {
 /// use beaker::{Key, Prefix};
 ///
 /// let ward_a = Prefix::new(8, Key::starting_with(&[0xa0]))?;
+/// assert_eq!((ward_a.bits(), ward_a.base().as_bytes()[0]), (8, 0xa0));
 /// assert!(Prefix::new(Prefix::GREATEST + 1, Key::ZERO).is_err());
 /// # Ok::<(), beaker::PrefixTooLong>(())
 /// ```
@@ -58,6 +68,16 @@ impl Prefix {
             return Err(PrefixTooLong { bits });
         }
         Ok(Prefix { bits, base })
+    }
+
+    /// How many first bits are the same.
+    pub const fn bits(self) -> u8 {
+        self.bits
+    }
+
+    /// The base: the key that they are the same as.
+    pub const fn base(self) -> Key {
+        self.base
     }
 
     /// Byte 0 is the number of bits, bytes 8 to 31 are the base; the bytes between are unread.

@@ -45,8 +45,9 @@
 //!
 //! # What to have
 //!
-//! `rt` of the Rattle kit builds the kernel's archive, and proves the exported functions as it does
-//! so. With `BEAKER_ARCHIVE` set to the full path of a `libbeaker.a`, that one is linked instead.
+//! `rt` of the Rattle kit proves the whole kernel, from the leaves to the exported functions, and
+//! builds its archive. The first time takes some minutes, in which cargo shows nothing. With
+//! `BEAKER_ARCHIVE` set to the full path of a `libbeaker.a`, that one is linked instead.
 //!
 //! The archive is code for x86-64 Linux. On an Arm machine `../khiaosuwit/host/cross cargo run`
 //! stands for `cargo run`, in any package: it builds x86-64 code too, and runs it by an emulator.

@@ -39,6 +39,20 @@ impl From<[u8; 32]> for Mask {
     }
 }
 
+/// Its bytes again.
+impl From<Mask> for [u8; 32] {
+    fn from(mask: Mask) -> [u8; 32] {
+        mask.0
+    }
+}
+
+/// Its bytes, as the kernel reads them.
+impl AsRef<[u8]> for Mask {
+    fn as_ref(&self) -> &[u8] {
+        &self.0
+    }
+}
+
 /// Table 24 of section 5.1: first and last opcode of each range, in the table's order.
 const WHITELIST: [(u8, u8); 15] = [
     (0x00, 0x0b), // stop and arithmetic

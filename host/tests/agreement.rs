@@ -24,7 +24,8 @@ mod agreement {
     mod sequences;
     mod tables;
 
-    const OF_MESSAGES: usize = sequences::CALLS + messages::DAMAGED;
-    const OF_RIGHTS: usize = rights::ON_RANGES + rights::ON_CODE;
-    const _: () = assert!(OF_MESSAGES + OF_RIGHTS + tables::ON_FLIPPED_BYTES >= 200_000);
+    const OF_MESSAGES: usize = sequences::CALLS + messages::ON_SIZES + messages::DAMAGED;
+    const OF_RIGHTS: usize = rights::ON_PREFIXES + rights::ON_RANGES + rights::ON_CODE;
+    const OF_TABLES: usize = tables::ON_FLIPPED_BYTES + tables::ON_UNSOUND + tables::ON_LENGTHS;
+    const _: () = assert!(OF_MESSAGES + OF_RIGHTS + OF_TABLES >= 200_000);
 }

@@ -219,6 +219,17 @@ mod numbers {
     }
 
     #[test]
+    fn bytes_are_read_and_given_back() {
+        assert_eq!(Key::try_from(key().as_ref()).unwrap(), key());
+        assert_eq!(Address::try_from(address().as_ref()).unwrap(), address());
+        assert_eq!(Word::try_from(word().as_ref()).unwrap(), word());
+        assert_eq!(Key::from(<[u8; 24]>::from(key())), key());
+        for wrong in [0, 19, 21, 24] {
+            assert!(Address::try_from(&[1; 24][..wrong]).is_err(), "{wrong}");
+        }
+    }
+
+    #[test]
     fn keys_and_addresses_stand_right_in_words() {
         assert_eq!(Word::from(key()).to_string(), format!("{ZEROS_8}{KEY}"));
         assert_eq!(
@@ -347,7 +358,9 @@ mod mask {
             .filter(|&k| portal_mask().allows(k) != whitelist_mask().allows(k))
             .collect();
         assert_eq!(more, [0xf4]);
-        assert_eq!(Mask::from(*portal_mask().as_bytes()), portal_mask());
+        let bytes: [u8; 32] = portal_mask().into();
+        assert_eq!(Mask::from(bytes), portal_mask());
+        assert_eq!(portal_mask().as_ref(), bytes);
     }
 
     /// The kernel judges each opcode as the mask's own test does.
@@ -418,13 +431,7 @@ mod slots {
         assert_eq!(read(slot::entry_key()), Word::from(first));
         assert_eq!(read(slot::address(first)), Word::from(0x11));
         assert_eq!(read(slot::index(first)), Word::from(1));
-        for kind in [
-            Kind::Call,
-            Kind::Register,
-            Kind::Delete,
-            Kind::SetEntry,
-            Kind::Write,
-        ] {
+        for kind in Kind::ALL {
             assert_eq!(read(slot::capability_count(first, kind)), Word::from(1));
         }
         assert_eq!(

@@ -58,16 +58,34 @@ pub fn value(record: &Record) -> Limbs {
     word(record, 32)
 }
 
+/// Whether the second key is above the first: the first limbs that differ decide.
+pub fn ascends(before: &Record, record: &Record) -> bool {
+    let mut limbs = (0..32)
+        .step_by(8)
+        .map(|at| (limb(before, at), limb(record, at)));
+    limbs.find(|(a, b)| a != b).is_some_and(|(a, b)| a < b)
+}
+
+/// Whether a record's value is zero. Most values are small numbers, so the last limb is judged first.
+pub fn holds_zero(record: &Record) -> bool {
+    limb(record, 56) == 0 && value(record) == ZERO
+}
+
 pub fn record(key: Limbs, value: Limbs) -> Record {
     let mut record = [0; RECORD];
-    for (bytes, limb) in record.chunks_exact_mut(8).zip(key.iter().chain(&value)) {
-        bytes.copy_from_slice(&limb.to_be_bytes());
-    }
+    set_word(&mut record[..32], key);
+    set_value(&mut record, value);
     record
 }
 
-pub fn set_value(at: &mut Record, value: Limbs) {
-    *at = record(key(at), value);
+pub fn set_value(record: &mut Record, value: Limbs) {
+    set_word(&mut record[32..], value);
+}
+
+fn set_word(bytes: &mut [u8], word: Limbs) {
+    for (bytes, limb) in bytes.chunks_exact_mut(8).zip(word) {
+        bytes.copy_from_slice(&limb.to_be_bytes());
+    }
 }
 
 pub fn number(n: usize) -> Limbs {

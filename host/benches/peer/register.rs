@@ -131,35 +131,32 @@ fn tests(records: &[Record], at: &Layout, series: &Series) -> Option<u64> {
     Some(tests)
 }
 
-/// The same for one type. A held capability is made ready when the search first reaches it, and
-/// kept for the next request.
+/// The same for one type.
 fn tests_among<R: Right>(
     records: &[Record],
     at: &Layout,
     series: &Series,
     of: usize,
 ) -> Option<u64> {
-    let held = count(records, at, of);
-    let mut source = Held::new(records, at, of);
-    let mut ready: Vec<R> = Vec::with_capacity(held);
+    let mut held = Held::new(records, at, of);
+    let mut ready: Vec<R> = Vec::with_capacity(held.count);
     let mut tests = 0;
     for words in series.of_type(of) {
-        let request = R::of(words);
-        let mut tested = 0;
-        let mut found = false;
-        while !found {
-            if tested == held {
-                return None;
-            }
-            if tested == ready.len() {
-                ready.push(R::of(source.next()));
-            }
-            found = ready[tested].contains(&request);
-            tested += 1;
-        }
-        tests += tested as u64;
+        tests += 1 + before(&R::of(words), &mut ready, &mut held)? as u64;
     }
     Some(tests)
+}
+
+/// How many held capabilities stand before the first that contains a request. Each is made ready
+/// when the search first reaches it, and kept for the next request.
+fn before<R: Right>(request: &R, ready: &mut Vec<R>, held: &mut Held) -> Option<usize> {
+    let mut found = ready.iter().position(|right| right.contains(request));
+    while found.is_none() {
+        let next = R::of(held.next()?);
+        found = next.contains(request).then_some(ready.len());
+        ready.push(next);
+    }
+    found
 }
 
 /// Reads the current procedure's capabilities of a type in order. Words of zero are absent.
@@ -167,6 +164,7 @@ struct Held<'a> {
     rest: &'a [Record],
     key: Key,
     of: usize,
+    count: usize,
     i: usize,
 }
 
@@ -180,11 +178,16 @@ impl<'a> Held<'a> {
             rest: &own[after_count..],
             key,
             of,
+            count: count(records, at, of),
             i: 0,
         }
     }
 
-    fn next(&mut self) -> [Limbs; 2] {
+    /// The words of the next capability, if there is one.
+    fn next(&mut self) -> Option<[Limbs; 2]> {
+        if self.i == self.count {
+            return None;
+        }
         self.i += 1;
         let mut words = [ZERO; 2];
         for (k, word) in words[..WORDS[self.of]].iter_mut().enumerate() {
@@ -198,7 +201,7 @@ impl<'a> Held<'a> {
                 self.rest = after;
             }
         }
-        words
+        Some(words)
     }
 }
 

@@ -58,8 +58,9 @@ impl Right for Prefix {
         }
     }
 
+    /// The bases are compared first, for they tell most pairs apart.
     fn contains(&self, other: &Prefix) -> bool {
-        other.bits >= self.bits && self.covers(&other.base)
+        self.covers(&other.base) && other.bits >= self.bits
     }
 }
 

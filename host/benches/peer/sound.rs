@@ -47,7 +47,7 @@ fn key_in(word: &Limbs) -> Key {
 /// The layout of a sound table; nothing for any other.
 pub fn layout(records: &[Record]) -> Option<Layout> {
     // A guess if the table has not the record form: every record is looked at below.
-    let occupied = records.partition_point(|record| value(record) != ZERO);
+    let occupied = records.partition_point(|record| !holds_zero(record));
     let list_end = occupied.checked_sub(3)?;
     let list = find(&records[..list_end], &place_slot(0)).ok()?;
     let procedures = list_end - 1 - list;
@@ -85,16 +85,13 @@ fn is_zero(records: &[Record]) -> bool {
 
 /// The number of records before kernel storage, if they ascend and none has a value of zero.
 fn data_end(records: &[Record]) -> Option<usize> {
-    let mut last = ZERO;
     for (at, record) in records.iter().enumerate() {
-        let key = key(record);
-        if key[0] >> 32 == KERNEL {
+        if limb(record, 0) >> 32 == KERNEL {
             return Some(at);
         }
-        if (key <= last && at > 0) || value(record) == ZERO {
+        if holds_zero(record) || (at > 0 && !ascends(&records[at - 1], record)) {
             return None;
         }
-        last = key;
     }
     Some(records.len())
 }

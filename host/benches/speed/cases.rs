@@ -11,6 +11,9 @@ const RECORD: usize = 64;
 /// The records of a full table.
 pub const RECORDS: usize = LENGTH / RECORD;
 
+/// The bytes of the longest code that passes.
+const LONGEST_CODE: usize = 24_576;
+
 /// The records that Register with one capability needs.
 pub const FREE: usize = 5;
 
@@ -28,7 +31,7 @@ pub enum Call {
     SetUp,
     Turn(Key),
     Look(Word),
-    System(Vec<u8>),
+    System { message: Vec<u8>, code: Vec<u8> },
 }
 
 const FIRST: Key = [0x40; 24];
@@ -41,7 +44,7 @@ impl Call {
             Call::SetUp => raw::set_up(table, &FIRST, &ADDRESS, &ADDRESS),
             Call::Turn(key) => raw::turn(table, key),
             Call::Look(slot) => raw::look(table, slot),
-            Call::System(message) => raw::system_call(table, message, &[0], &MASK),
+            Call::System { message, code } => raw::system_call(table, message, code, &MASK),
         }
     }
 
@@ -50,7 +53,7 @@ impl Call {
             Call::SetUp => peer::set_up(table, &FIRST, &ADDRESS, &ADDRESS),
             Call::Turn(key) => peer::turn(table, key),
             Call::Look(slot) => peer::look(table, slot),
-            Call::System(message) => peer::system_call(table, message, &[0], &MASK),
+            Call::System { message, code } => peer::system_call(table, message, code, &MASK),
         }
     }
 }
@@ -91,6 +94,7 @@ pub fn all() -> [(String, Vec<Case>); 5] {
     let data = filled(fresh.table.clone());
     let mut on_fresh = plain_cases(&fresh);
     on_fresh.extend(large_cases(&fresh.table));
+    on_fresh.push(long_code_case(&fresh.table));
     let mut on_capabilities = plain_cases(&capabilities);
     on_capabilities.extend(large_cases(&without_one_holder(&capabilities.table)));
     let searches = search_cases(&capabilities);
@@ -127,7 +131,7 @@ fn plain_cases(tables: &Tables) -> Vec<Case> {
         Case::new("set-up", table, Call::SetUp),
         Case::new("Turn", table, Call::Turn(OTHER)),
         Case::new("Look", table, Call::Look(number(DATA))),
-        Case::new("Null", table, Call::System(vec![0])),
+        Case::new("Null", table, system(vec![0])),
         Case::new("Call", table, on_key(CALL, 0, &OTHER)),
         Case::new("Set Entry", table, on_key(SET_ENTRY, 0, &OTHER)),
         Case::new("Delete", table, on_key(DELETE, 0, &OTHER)),
@@ -146,6 +150,15 @@ fn large_cases(table: &[u8]) -> [Case; 2] {
         Case::new("Register with 255 capabilities", table, register),
         Case::new("Delete of a holder of 255", &with_holder, delete),
     ]
+}
+
+/// Register with code of the greatest length, of which every byte is an opcode that passes.
+fn long_code_case(table: &[u8]) -> Case {
+    let call = Call::System {
+        message: register_message(&NEW, &[]),
+        code: vec![0; LONGEST_CODE],
+    };
+    Case::new("Register with 24,576 bytes of code", table, call)
 }
 
 /// Calls of a procedure that holds 255 Call capabilities, of which only the last will do.
@@ -194,18 +207,28 @@ fn message(of: u8, fields: &[&[u8]]) -> Vec<u8> {
     message
 }
 
+/// A system call with one byte of code.
+fn system(message: Vec<u8>) -> Call {
+    let code = vec![0];
+    Call::System { message, code }
+}
+
 fn on_key(of: u8, index: u8, key: &Key) -> Call {
-    Call::System(message(of, &[&[index], key]))
+    system(message(of, &[&[index], key]))
 }
 
 fn write(slot: usize) -> Call {
-    Call::System(message(WRITE, &[&[0], &number(slot), &[7; 32]]))
+    system(message(WRITE, &[&[0], &number(slot), &[7; 32]]))
 }
 
 fn register(key: &Key, series: &[u8]) -> Call {
+    system(register_message(key, series))
+}
+
+fn register_message(key: &Key, series: &[u8]) -> Vec<u8> {
     let mut message = message(REGISTER, &[&[0], key, &ADDRESS]);
     message.extend_from_slice(series);
-    Call::System(message)
+    message
 }
 
 /// A request for a prefix capability, by the first two bytes of its base.

@@ -215,6 +215,22 @@ pub const DATA: usize = 30;
 /// A table with several procedures, some data, and capabilities of every type, of which some words
 /// are zero, unread bytes are not, and no call could have made some.
 pub fn varied(records: usize) -> Vec<u8> {
+    let mut table = holding(records, &varied_capabilities());
+    prepare(&mut table, varied_procedures());
+    prepare(
+        &mut table,
+        [
+            write(0, ZERO, number(1)),
+            write(0, number(5), from_top(0)),
+            write(0, power(255), power(255)),
+            on_key(Type::SetEntry, 0, &small_key(3)),
+        ],
+    );
+    table
+}
+
+/// What the first procedure of a varied table holds.
+fn varied_capabilities() -> Vec<Capability> {
     let mut capabilities = vec![
         set_entry(),
         set_entry(),
@@ -230,33 +246,20 @@ pub fn varied(records: usize) -> Vec<u8> {
         ]);
         capabilities.last_mut().unwrap().words[0][1..8].fill(0x77);
     }
-    let mut table = holding(records, &capabilities);
-    prepare(
-        &mut table,
-        [
-            register(
-                0,
-                &small_key(2),
-                &[set_entry(), range(number(5), number(6))],
-            ),
-            register(
-                0,
-                &key(&[0xa0, 0x80]),
-                &[prefix(Type::Call, 24, &key(&[0xa0, 0x80, 1]))],
-            ),
-            register(
-                0,
-                &small_key(3),
-                &[
-                    prefix(Type::Delete, 0, &key(&[])),
-                    prefix(Type::Register, 7, &key(&[2])),
-                ],
-            ),
-            write(0, ZERO, number(1)),
-            write(0, number(5), from_top(0)),
-            write(0, power(255), power(255)),
-            on_key(Type::SetEntry, 0, &small_key(3)),
-        ],
-    );
-    table
+    capabilities
+}
+
+/// How it registers the others.
+fn varied_procedures() -> [Call; 3] {
+    let with_two_words = [set_entry(), range(number(5), number(6))];
+    let with_longest_prefix = [prefix(Type::Call, 24, &key(&[0xa0, 0x80, 1]))];
+    let with_zero_word = [
+        prefix(Type::Delete, 0, &key(&[])),
+        prefix(Type::Register, 7, &key(&[2])),
+    ];
+    [
+        register(0, &small_key(2), &with_two_words),
+        register(0, &key(&[0xa0, 0x80]), &with_longest_prefix),
+        register(0, &small_key(3), &with_zero_word),
+    ]
 }

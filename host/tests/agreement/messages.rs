@@ -7,6 +7,8 @@ use crate::independent::messages::LONGEST_MESSAGE;
 use crate::independent::rights::{Capability, Type, GREATEST_PREFIX, MOST_OF_A_TYPE};
 use crate::independent::words::{number, right, Word, ZERO};
 
+pub const ON_SIZES: usize = 2_500;
+
 /// Each field of each call with every number of bytes, on a sound table and on others: its size
 /// is judged before the table.
 #[test]
@@ -19,7 +21,7 @@ fn field_sizes() {
             }
         }
     }
-    comparison.finish(2_500);
+    comparison.finish(ON_SIZES);
 }
 
 fn with_a_field_of(size: usize) -> Vec<Call> {

@@ -8,6 +8,8 @@ use crate::independent::words::{number, Word, ZERO};
 
 const OF_PREFIX: [Type; 3] = [Type::Call, Type::Register, Type::Delete];
 
+pub const ON_PREFIXES: usize = 6_000;
+
 /// Prefixes about whole bytes, with keys that differ in each bit near their ends; and containment,
 /// where the requested prefix is shorter, as long, longer or out of range.
 #[test]
@@ -30,7 +32,7 @@ fn prefixes() {
             }
         }
     }
-    comparison.finish(6_000);
+    comparison.finish(ON_PREFIXES);
 }
 
 pub const ON_RANGES: usize = 16_000;
@@ -90,7 +92,9 @@ fn on_range(comparison: &mut Comparison, held: &Capability, bounds: &[Word], all
     }
 }
 
-pub const ON_CODE: usize = 24_000;
+/// How many codes are random, and how many there are at least.
+const RANDOM_CODES: usize = 24_000;
+pub const ON_CODE: usize = RANDOM_CODES + 2_900;
 
 /// Code of every bounding length, push data cut at every byte, every opcode, and random code under
 /// random masks.
@@ -153,7 +157,7 @@ fn cut_push_data(comparison: &mut Comparison) {
 
 /// Random code of few opcodes, most of them pushes, under masks that allow most of them.
 fn random_code(comparison: &mut Comparison) {
-    for _ in 0..ON_CODE {
+    for _ in 0..RANDOM_CODES {
         let random = &mut comparison.random;
         let opcodes = [0x00, 0x5f, 0x60, 0x61, 0x6f, 0x7f, 0x80, random.byte()];
         let code = (0..random.below(60))

@@ -8,7 +8,7 @@ use crate::independent::soundness::Sound;
 use crate::independent::storage::RECORD;
 use std::collections::BTreeMap;
 
-pub const CALLS: usize = 112_000;
+pub const CALLS: usize = 96_800;
 const IN_A_SEQUENCE: usize = 400;
 
 /// The answers that every system call may give before its type is known.

@@ -35,6 +35,8 @@ fn flipped_bytes() {
     assert!(comparison.count("Look", NOT_SOUND) > 1_000);
 }
 
+pub const ON_UNSOUND: usize = 2_000;
+
 /// Tables that break one clause: every call but set-up refuses them, and set-up overwrites them.
 #[test]
 fn unsound_tables() {
@@ -57,7 +59,7 @@ fn unsound_tables() {
             .for_each(|(slot, value)| storage.store(slot, value));
         refused_by_all(&mut comparison, &mutation.name, &table_of(&storage, 60));
     }
-    comparison.finish(2_000);
+    comparison.finish(ON_UNSOUND);
 }
 
 fn refused_by_all(comparison: &mut Comparison, name: &str, table: &[u8]) {
@@ -66,6 +68,8 @@ fn refused_by_all(comparison: &mut Comparison, name: &str, table: &[u8]) {
     }
     assert_eq!(comparison.try_on(table, &set_up()).flag, 1, "{name}");
 }
+
+pub const ON_LENGTHS: usize = 3_000;
 
 /// Tables of every class of lengths: empty, sound where the length allows, and filled with
 /// anything.
@@ -85,7 +89,7 @@ fn table_lengths() {
             }
         }
     }
-    comparison.finish(3_000);
+    comparison.finish(ON_LENGTHS);
 }
 
 /// Tables without a free record, short and of full size, with data, many procedures or many
@@ -208,9 +212,29 @@ fn many_capabilities() {
                 comparison.try_on(&table, &register(0, &small_key(9), requests));
             }
             for index in [0, 1, 99, 100, 119, 120, 254, 255, 256] {
-                comparison.try_on(&table, &on_key(of, index, &key(&[7])));
+                let call = match of {
+                    Type::Register => register(index, &key(&[7, 7]), &[]),
+                    Type::Write => write(index, number(3), number(1)),
+                    _ => on_key(of, index, &key(&[7])),
+                };
+                comparison.try_on(&table, &call);
             }
         }
     }
     comparison.finish(100);
+}
+
+/// 255 requests, each of which is within one held capability alone, at some place among 255.
+#[test]
+fn longest_search() {
+    let mut comparison = Comparison::new("longest search");
+    let mut held = vec![prefix(Type::Register, 0, &key(&[]))];
+    held.extend((1..=255).map(|n| prefix(Type::Call, 8, &key(&[n]))));
+    let table = holding(FULL, &held);
+    for place in [1, 2, 128, 255] {
+        let requests = vec![prefix(Type::Call, 9, &key(&[place])); 255];
+        let answer = comparison.try_on(&table, &register(0, &small_key(9), &requests));
+        assert_eq!(answer.tests, 255 * u64::from(place));
+    }
+    comparison.finish(4);
 }
