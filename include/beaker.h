@@ -31,7 +31,8 @@ extern "C" {
 struct beaker_reply {
     /* Register: how many held capabilities were compared with requested ones. */
     uint64_t tests;
-    /* Call: where in the caller's message the payload begins (65), also when it is empty. */
+    /* Call: where in the caller's message the payload begins (65), also when it is empty; 0 for
+     * every other answer. */
     size_t payload_at;
     /* Call: how many bytes the payload has. */
     size_t payload_len;
@@ -49,7 +50,7 @@ struct beaker_reply {
 
 /* Set-up: makes this the table of a new kernel, whatever it held. The table's length is a multiple
  * of 64, at most 65,536 bytes; the key has 24 bytes, each address 20. The key's procedure is then
- * listed, current and entry, and may do everything. */
+ * listed, current and entry, and may do everything but write kernel storage. */
 struct beaker_reply beaker_set_up(uint8_t *table, size_t table_len, const uint8_t *key,
                                   size_t key_len, const uint8_t *address, size_t address_len,
                                   const uint8_t *kernel_address, size_t kernel_address_len);

@@ -80,8 +80,8 @@ const DELEGATECALL: u8 = 0xf4;
 ///
 /// In hexadecimal: 00 to 0b, 10 to 1a, 20, 30 to 3e, 40 to 45, 50 to 54 (54 is SLOAD), 56 to 5b, 60
 /// to 9f, f3 (RETURN), fa (STATICCALL), fd (REVERT), fe (INVALID). Documents 000 and 002 print the
-/// same table. Opcodes that came to the EVM later are not on it (1b to 1d, 3f, 46 and up): the
-/// section says that a new opcode stays out until somebody adds it.
+/// same table. Opcodes that came to the EVM later are not on it (such as 1b to 1d, 3f, 46 to 48):
+/// the section says that a new opcode stays out until somebody adds it.
 ///
 /// **DELEGATECALL (f4) is not on it**, although a procedure needs it to make a system call: section
 /// 5 allows it where it is part of one, and a mask cannot say that. For contracts that make system

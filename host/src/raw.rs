@@ -18,13 +18,14 @@
 pub struct Reply {
     /// Register: how many held capabilities were compared with requested ones.
     pub tests: u64,
-    /// Call: where in the caller's message the payload begins, also when it is empty.
+    /// Call: where in the caller's message the payload begins, which is 65, also when it is empty;
+    /// 0 for every other answer.
     pub payload_at: usize,
     /// Call: how many bytes the payload has.
     pub payload_len: usize,
     /// Call: the callee's address.
     pub address: [u8; 20],
-    /// Look: the slot's value.
+    /// Look: the slot's value, most significant byte first; zero if nothing is stored there.
     pub value: [u8; 32],
     /// 1 for a success, 0 for a refusal.
     pub flag: u8,

@@ -130,7 +130,7 @@ impl<B: AsRef<[u8]>> Table<B> {
 
 impl<B: AsRef<[u8]> + AsMut<[u8]>> Table<B> {
     /// Set-up: makes this the table of a new kernel, whatever it held. Its one procedure is current
-    /// and entry, and may do everything. The answer is [`Answer::Done`].
+    /// and entry, and may do everything but write kernel storage. The answer is [`Answer::Done`].
     pub fn set_up(
         &mut self,
         key: Key,

@@ -52,10 +52,10 @@ walk-opcode mask k rest = if-and (allowed mask k) _ ∙ ap (λ x. allowed mask k
 
 -- the walk at an index within the code
 walk-at : (mask code : Bytes) (i : ℕ) → i < length code
-    → walk mask 0 (drop i code) ≡ (allowed mask (getD code i 0) && walk mask 0 (drop (i + (1 + dataBytes (getD code i 0))) code))
+    → walk mask 0 (drop i code) ≡ (allowed mask (getD code i 0) && walk mask 0 (drop (i + 1 + dataBytes (getD code i 0)) code))
 walk-at mask code i h =
     let k = getD code i 0 in
-    let next : suc i + dataBytes k ≡ i + (1 + dataBytes k) = omega arith in
+    let next : suc i + dataBytes k ≡ i + 1 + dataBytes k = omega arith in
     ap (walk mask 0) (drop-cons code i 0 h)
     ∙ walk-opcode mask k (drop (suc i) code)
     ∙ ap (λ x. allowed mask k && walk mask 0 x) (drop-drop (dataBytes k) (suc i) code ∙ ap (λ n. drop n code) next)
@@ -68,8 +68,12 @@ pub record Walked (mask code : Bytes) (i : ℕ) : Type 0 where
 pub walked-none : {mask code : Bytes} → length code ≤ greatestCode → Walked mask code 0
 walked-none h = record { short = h; left = refl }
 
+-- the walk goes on where it is told that the same is left
+pub walked-on : {mask code : Bytes} {i at : ℕ} → Walked mask code i → walk mask 0 (drop i code) ≡ walk mask 0 (drop at code) → Walked mask code at
+walked-on w e = record { short = w .short; left = w .left ∙ e }
+
 pub walked-more : {mask code : Bytes} {i n : ℕ} → Walked mask code i → i < length code → true ≡ allowed mask (getD code i 0) → n ≡ dataBytes (getD code i 0)
-    → Walked mask code (i + (1 + n))
+    → Walked mask code (i + 1 + n)
 walked-more {mask} {code} {i} w h a n = record { short = w .short; left = w .left ∙ walk-at mask code i h ∙ rw (n, ← a) }
 
 pub walked-stop : {mask code : Bytes} {i : ℕ} → Walked mask code i → i < length code → false ≡ allowed mask (getD code i 0) → false ≡ walk mask 0 code
@@ -78,6 +82,21 @@ walked-stop {mask} {code} {i} w h a = sym (w .left ∙ walk-at mask code i h ∙
 pub walked-all : {mask code : Bytes} {i : ℕ} → Walked mask code i → length code ≤ i → true ≡ walk mask 0 code
 unfolding walk
 walked-all {mask} {code} {i} w h = sym (w .left ∙ rw (drop-of-length-le code h))
+
+-- Allowed opcodes that push nothing, from a walked one on: what is left behind them decides.
+pub record Plain (mask code : Bytes) (from i : ℕ) : Type 0 where
+  pub short : length code ≤ greatestCode
+  pub onward : from ≤ i
+  pub left : walk mask 0 (drop from code) ≡ walk mask 0 (drop i code)
+
+pub plain-none : {mask code : Bytes} {from : ℕ} → length code ≤ greatestCode → Plain mask code from from
+plain-none h = record { short = h; onward = omega arith; left = refl }
+
+pub plain-more : {mask code : Bytes} {from i : ℕ} → Plain mask code from i → i < length code → true ≡ allowed mask (getD code i 0)
+    → 0 ≡ dataBytes (getD code i 0) → Plain mask code from (i + 1)
+plain-more {mask} {code} {from} {i} p h a none =
+    let next : i + 1 + 0 ≡ i + 1 = omega arith in
+    record { short = p .short; onward = omega (arith, p .onward); left = p .left ∙ walk-at mask code i h ∙ rw (← a, ← none, next) }
 
 -- the tests of the length, which come before the walk
 module _ (mask code : Bytes) where

@@ -1,7 +1,7 @@
 // Code validation at registration: the opcode mask alone decides which code passes.
 ghost use mathlib.Core.Path.{_≡_};
 ghost use Prim.Native.Nat.{_≤_};
-ghost use lib.ListN.{length};
+ghost use lib.ListN.{length, drop};
 ghost use Rattle.rules.specs.Words.{wordBytes};
 ghost use Rattle.rules.specs.Validation.{greatestCode, allowed, dataBytes, walk, passes};
 
@@ -32,6 +32,26 @@ pub fn data_bytes(opcode: u8) -> usize
     (opcode - (FIRST_PUSH - 1)) as usize
 }
 
+// From a walked opcode on, the place of the first that pushes data or is not allowed; the code's length if there is none. Most opcodes
+// push nothing: here the place of the next one is known before this one is read, so a processor reads ahead.
+fn plain_end(mask: &[u8], code: &[u8], from: usize) -> usize
+    requires { ⌜ (length (now mask) ≡ wordBytes) × (length (now code) ≤ greatestCode) × (from ≤ length (now code)) ⌝ }
+    ensures { λ r. ⌜ (from ≤ r) × (walk (now (mask .entry)) 0 (drop from (now (code .entry))) ≡ walk (now (mask .entry)) 0 (drop r (now (code .entry)))) ⌝ }
+{
+    let mut i = from;
+    while i < code.len() {
+        let opcode = code[i];
+        if data_bytes(opcode) != 0 {
+            return i;
+        }
+        if !allowed(mask, opcode) {
+            return i;
+        }
+        i += 1;
+    }
+    i
+}
+
 // Whether every walked opcode is allowed. The code's length is bounded, so that no step of the walk can wrap.
 fn walk(mask: &[u8], code: &[u8]) -> bool
     requires { ⌜ (length (now mask) ≡ wordBytes) × (length (now code) ≤ greatestCode) ⌝ }
@@ -39,11 +59,15 @@ fn walk(mask: &[u8], code: &[u8]) -> bool
 {
     let mut i: usize = 0;
     while i < code.len() {
-        let opcode = code[i];
+        let at = plain_end(mask, code, i);
+        if code.len() <= at {
+            return true;
+        }
+        let opcode = code[at];
         if !allowed(mask, opcode) {
             return false;
         }
-        i += 1 + data_bytes(opcode);
+        i = at + 1 + data_bytes(opcode);
     }
     true
 }

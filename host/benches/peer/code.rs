@@ -6,17 +6,26 @@ pub fn passes(code: &[u8], mask: &[u8; 32]) -> bool {
     if code.is_empty() || code.len() > LONGEST_CODE {
         return false;
     }
-    let mut at = 0;
-    while let Some(&opcode) = code.get(at) {
-        if mask[usize::from(opcode >> 3)] >> (opcode & 7) & 1 == 0 {
+    let mut rest = code;
+    // Opcodes that push nothing follow each other at once: a processor reads ahead of the search.
+    while let Some(at) = rest
+        .iter()
+        .position(|&opcode| is_push(opcode) || !allowed(opcode, mask))
+    {
+        let opcode = rest[at];
+        if !allowed(opcode, mask) {
             return false;
         }
-        let is_push = opcode & 0xe0 == 0x60;
-        at += if is_push {
-            usize::from(opcode & 0x1f) + 2
-        } else {
-            1
-        };
+        let next = at + usize::from(opcode & 0x1f) + 2;
+        rest = rest.get(next..).unwrap_or(&[]);
     }
     true
+}
+
+fn allowed(opcode: u8, mask: &[u8; 32]) -> bool {
+    mask[usize::from(opcode >> 3)] >> (opcode & 7) & 1 == 1
+}
+
+fn is_push(opcode: u8) -> bool {
+    opcode & 0xe0 == 0x60
 }
