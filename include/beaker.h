@@ -73,6 +73,8 @@ struct beaker_reply beaker_look(const uint8_t *table, size_t table_len, const ui
  *   6 Set Entry  index, key
  *   7 Write      index, address, value
  *
+ * Null, Delete, Set Entry and Write end there: a byte more is refused (66 eb).
+ *
  * The index says which of its capabilities of the message's type the running procedure uses,
  * counted from 0. Each capability that Register requests begins with two words: its size, which is
  * 1 + the number of words that follow the two, and its type. These follow:

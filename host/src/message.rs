@@ -3,7 +3,8 @@
 //! `index` says which capability of the message's type the running procedure uses, counted from 0.
 //!
 //! A message is a `Vec<u8>`. One that these functions cannot make, such as one that is cut short,
-//! is made from bytes: every list of bytes may be sent, and has its answer.
+//! is made from bytes: every list of bytes may be sent, and has its answer. Only Call and Register
+//! are open-ended; bytes after the end of any other message are refused (66 eb).
 
 use crate::{Address, Capability, Key, Kind, Word};
 

@@ -56,6 +56,8 @@ refusals! {
     MessageTooLong [0x66, 0xea] "the message is longer than 65,536 bytes";
     /// aa: type not 0, 3, 4, 5, 6, 7.
     UnknownType [0xaa] "the kernel knows no message of this type";
+    /// 66 eb: Null, Set Entry, Delete, Write: data beyond their format.
+    Overlong [0x66, 0xeb] "the message is longer than its type allows";
     /// 66 e6: key word with a non-zero byte in its first 8; Register's address word with one in its
     /// first 12.
     LeadingBytes [0x66, 0xe6] "a key or an address in the message is too large";

@@ -1,6 +1,6 @@
-//! The archive against document 01: more than 200,000 calls, each compared with the independent
-//! implementation in every field of the result and every byte of the table. The benchmarks' peer
-//! is compared too, so that what they measure keeps the same promise.
+//! The archive against document 01, with what 02 has changed: more than 200,000 calls, each
+//! compared with the independent implementation in every field of the result and every byte of the
+//! table. The benchmarks' peer is compared too, so that what they measure keeps the same promise.
 //!
 //! Each test is a family of inputs, and says how many calls it made and from which seed.
 //! `BEAKER_SEED=n` draws others; a difference prints the seed, the call's number and all that the

@@ -258,13 +258,14 @@ mod numbers {
 mod refusals {
     use super::*;
 
-    /// Document 01's table, in its order.
-    const CODES: [(Refusal, &[u8]); 17] = [
+    /// Document 01's table, in its order; 66 eb of document 02 stands where it is judged.
+    const CODES: [(Refusal, &[u8]); 18] = [
         (Refusal::WrongBytes, &[0x66, 0xed]),
         (Refusal::Unsound, &[0x66, 0xef]),
         (Refusal::Short, &[0x66, 0xe0]),
         (Refusal::MessageTooLong, &[0x66, 0xea]),
         (Refusal::UnknownType, &[0xaa]),
+        (Refusal::Overlong, &[0x66, 0xeb]),
         (Refusal::LeadingBytes, &[0x66, 0xe6]),
         (Refusal::Zero, &[0x66, 0xe4]),
         (Refusal::NotCovered, &[0x33]),
@@ -505,6 +506,24 @@ mod calls {
             assert_eq!(payload, sent);
             assert_eq!(payload.as_ptr_range(), message[65..].as_ptr_range());
         }
+    }
+
+    /// Null, Set Entry, Delete and Write are no longer than their format.
+    #[test]
+    fn a_message_that_goes_on_is_refused() {
+        let mut table = fresh();
+        let first = Key::from(0x01);
+        for mut sent in [
+            message::null(),
+            message::set_entry(0, first),
+            message::delete(0, first),
+            message::write(0, word(), Word::from(5)),
+        ] {
+            sent.push(0);
+            let answer = table.call(&sent, &[], &Mask::NONE);
+            assert_eq!(answer, Err(Refusal::Overlong));
+        }
+        assert_eq!(table.as_bytes(), fresh().as_bytes());
     }
 
     #[test]

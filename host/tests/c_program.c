@@ -108,6 +108,7 @@ static void delete_it(void) {
 
 int main(void) {
     const uint8_t null_message[1] = {0};
+    const uint8_t overlong[2] = {0, 0};
     const uint8_t unknown[1] = {1};
     set_up_and_turn();
     register_one();
@@ -115,6 +116,7 @@ int main(void) {
     write_and_look();
     delete_it();
     HOLDS(done(call(null_message, 1)));
+    HOLDS(refused(call(overlong, 2), 2, 0x66, 0xeb));
     HOLDS(refused(call(unknown, 1), 1, 0xaa, 0));
     HOLDS(refused(call(null_message, 0), 2, 0x66, 0xe0));
     puts("every line holds");

@@ -12,8 +12,8 @@ use Rattle.rules.specs.Words.{Bytes}
 use Rattle.rules.specs.Table.{Store, room, store, lengthFits}
 use Rattle.rules.specs.Capabilities.{Kind, call, register, delete, setEntry, write}
 use Rattle.rules.specs.Sound.{anyOf, soundTable}
-use Rattle.rules.specs.Messages.{typeOf, dataOf, Named, null, unknown, ofKind, named, minimum, leadingBytes}
-use Rattle.rules.specs.Answers.{Refusal, ed, ef, e0, ea, e6, e4, x6633, e7, codeNumber, Answer, refused, fields, Result, refuse, answer, change, Check, _⇒_, judge, outcome}
+use Rattle.rules.specs.Messages.{typeOf, dataOf, Named, null, unknown, ofKind, named, minimum, openEnded, overlong, leadingBytes}
+use Rattle.rules.specs.Answers.{Refusal, ed, ef, e0, ea, eb, e6, e4, x6633, e7, codeNumber, Answer, refused, fields, Result, refuse, answer, change, Check, _⇒_, judge, outcome}
 use Rattle.rules.specs.Calls.{setUp, turn, look, doCall, doSetEntry, doDelete, doWrite, doRegister, doKind, doNamed, systemCall}
 use Rattle.rules.specs.Demands.{AnyCall, settingUp, turning, looking, calling, Kernel, defined, perform, codesOfKind, codesOfNamed, codesOf, OneOf, ListedAnswer, success, refusal, Demand1, Demand2}
 use Rattle.laws.proofs.Lists.{true-any}
@@ -67,19 +67,20 @@ kind-among rooms s d code mask delete = row-among (search codes depth 30) (chang
 kind-among rooms s d code mask setEntry = row-among (search codes depth 30) (changes (refl, refl))
 kind-among rooms s d code mask write = row-among (search codes depth 30) (changes (refl, refl))
 
--- the row before a type's own; a Write has no key word, so its check for 66 e6 never fails
+-- the row before a type's own; Call and Register are open-ended, so their check for 66 eb never fails, and a Write has no key word,
+-- so its check for 66 e6 never does
 before-kind : (d : Bytes) (kind : Kind)
-    → CodesAmong (codesOfNamed (ofKind kind)) (ltb (length d) (minimum kind) ⇒ e0 ∷ leadingBytes kind d ⇒ e6 ∷ [])
-unfolding leadingBytes
-before-kind d call = search codes
-before-kind d register = search codes
-before-kind d delete = search codes
-before-kind d setEntry = search codes
-before-kind d write = search codes
+    → CodesAmong (codesOfNamed (ofKind kind)) (ltb (length d) (minimum kind) ⇒ e0 ∷ overlong kind d ⇒ eb ∷ leadingBytes kind d ⇒ e6 ∷ [])
+unfolding openEnded overlong leadingBytes
+before-kind d call = search codes depth 12
+before-kind d register = search codes depth 12
+before-kind d delete = search codes depth 12
+before-kind d setEntry = search codes depth 12
+before-kind d write = search codes depth 12
 
 named-among : (rooms : ℕ) (s : Store) (d code mask : Bytes) (n : Named) → Among (codesOfNamed n) (doNamed rooms s d code mask n)
 unfolding doNamed fields
-named-among rooms s d code mask null = answers (refl, refl)
+named-among rooms s d code mask null = row-among (search codes) (answers (refl, refl))
 named-among rooms s d code mask unknown = refuses (inl refl)
 named-among rooms s d code mask (ofKind kind) = row-among (before-kind d kind) (among-after (e0 ∷ []) (kind-among rooms s d code mask kind))
 

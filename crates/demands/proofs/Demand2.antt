@@ -43,7 +43,7 @@ kind-own t m code mask write = refused-own m t _ _ tt
 
 named-own : (t m code mask : Bytes) (n : Named) → own m t (doNamed (room t) (store t) (dataOf m) code mask n)
 unfolding own outcome doNamed
-named-own t m code mask null = tt
+named-own t m code mask null = refused-own m t _ _ tt
 named-own t m code mask unknown = tt
 named-own t m code mask (ofKind kind) = refused-own m t _ _ (kind-own t m code mask kind)
 

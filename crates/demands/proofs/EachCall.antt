@@ -309,7 +309,7 @@ module _ (t : Bytes) (g : GoodTable t) where
 
     named-step : (n : Named) → named (typeOf m) ≡ n → Step t c (outcome t (doNamed (room t) s d code mask n))
     unfolding doNamed registers
-    named-step null q = answer-step t g c done (λ p. rw (ne-eqb (typeOf m) (number register) null-no-register))
+    named-step null q = row-step t g c _ _ (λ ps. answer-step t g c done (λ p. rw (ne-eqb (typeOf m) (number register) null-no-register)))
       where
         null-no-register : typeOf m ≢ number register
         null-no-register z =

@@ -3,7 +3,7 @@
 use mathlib.Core.Path.{_≡_, refl, sym, ap, _∙_}
 use mathlib.Core.List.{[]}
 use Rattle.rules.specs.Words.{Bytes, AllBytes}
-use Rattle.rules.specs.Answers.{Refusal, ed, ef, e0, ea, aa, e6, e4, x33, e9, e5, x77, e1, e2, e3, x6633, e8, e7, refusals, codeNumber, Answer, refused, done, called, registered, looked, Outcome, fields}
+use Rattle.rules.specs.Answers.{Refusal, ed, ef, e0, ea, aa, eb, e6, e4, x33, e9, e5, x77, e1, e2, e3, x6633, e8, e7, refusals, codeNumber, Answer, refused, done, called, registered, looked, Outcome, fields}
 use Rattle.rules.specs.Demands.{AnyCall, settingUp, turning, looking, calling, LentBytes, defined, perform, Demand1, Demand2, Demand3}
 use Rattle.rules.specs.Source.{OwnPayload, replyOf, refusedReply, fieldsWith, fieldsOf}
 use Rattle.demands.proofs.Demand1.{demand-1}
@@ -25,6 +25,7 @@ refusal-back ef = refl
 refusal-back e0 = refl
 refusal-back ea = refl
 refusal-back aa = refl
+refusal-back eb = refl
 refusal-back e6 = refl
 refusal-back e4 = refl
 refusal-back x33 = refl

@@ -6,7 +6,7 @@ use Rattle.rules.specs.Words.{Bytes, num, numAfter}
 use Rattle.rules.specs.Table.{room, store}
 use Rattle.rules.specs.Capabilities.{Kind, call, register, delete, setEntry, write}
 use Rattle.rules.specs.Messages.{Named, null, unknown, ofKind, named, typeOf, dataOf}
-use Rattle.rules.specs.Answers.{Refusal, ed, ef, e0, ea, aa, e6, e4, x33, e9, e5, x77, e1, e2, e3, x6633, e8, e7, refusals, codeNumber, codeBytes, Answer, refused, fields, Result, Check, judge, Outcome, outcome}
+use Rattle.rules.specs.Answers.{Refusal, ed, ef, e0, ea, aa, eb, e6, e4, x33, e9, e5, x77, e1, e2, e3, x6633, e8, e7, refusals, codeNumber, codeBytes, Answer, refused, fields, Result, Check, judge, Outcome, outcome}
 use Rattle.rules.specs.Calls.{setUp, turn, look, systemCall, doKind, doNamed, doCall, doRegister, doDelete, doSetEntry, doWrite}
 use Rattle.rules.specs.Demands.{AnyCall, settingUp, turning, looking, calling, perform, Demand1, Demand2, Demand3}
 use Rattle.rules.specs.Source.{OwnPayload}
@@ -27,6 +27,7 @@ refusal-back ef = refl
 refusal-back e0 = refl
 refusal-back ea = refl
 refusal-back aa = refl
+refusal-back eb = refl
 refusal-back e6 = refl
 refusal-back e4 = refl
 refusal-back x33 = refl
@@ -79,7 +80,7 @@ module _ (t m code mask : Bytes) where
 
   named-known : (n : Named) → named (typeOf m) ≡ n → Known asked (outcome t (doNamed (room t) (store t) (dataOf m) code mask n) .answer)
   unfolding Known answerTo successTo successOfType fields outcome doNamed
-  named-known null e = rw e
+  named-known null e = row-known asked t _ _ (rw e)
   named-known unknown e = refused-known asked aa
   named-known (ofKind kind) e = row-known asked t _ _ (kind-known kind e)
 

@@ -35,7 +35,7 @@ module _ (t m : Bytes) where
 
   named-inside : (code mask : Bytes) (n : Named) → Inside (doNamed (room t) (store t) (dataOf m) code mask n)
   unfolding Inside outcome placeOf fields doNamed
-  named-inside code mask null = omega arith
+  named-inside code mask null = row-inside _ _ (omega arith)
   named-inside code mask unknown = omega arith
   named-inside code mask (ofKind kind) =
       judge-cases Inside _ _ (λ c i e. omega arith)

@@ -6,7 +6,7 @@ use lib.ListN.{length, take, drop}
 use lib.Seq.{take-length}
 use Rattle.rules.specs.Words.{Bytes}
 use Rattle.rules.specs.Messages.{payloadAt, dataOf, payloadOf}
-use Rattle.rules.specs.Answers.{Refusal, ed, ef, e0, ea, aa, e6, e4, x33, e9, e5, x77, e1, e2, e3, x6633, e8, e7, codeNumber, codeBytes, Answer, refused, done, called, registered, looked, fields, Outcome}
+use Rattle.rules.specs.Answers.{Refusal, ed, ef, e0, ea, aa, eb, e6, e4, x33, e9, e5, x77, e1, e2, e3, x6633, e8, e7, codeNumber, codeBytes, Answer, refused, done, called, registered, looked, fields, Outcome}
 use Rattle.rules.specs.Calls.{setUp, turn, look, systemCall}
 use Rattle.rules.specs.Source.{OwnPayload}
 use Rattle.rules.proofs.Source.{payload-from}
@@ -25,6 +25,7 @@ code-read ef = refl
 code-read e0 = refl
 code-read ea = refl
 code-read aa = refl
+code-read eb = refl
 code-read e6 = refl
 code-read e4 = refl
 code-read x33 = refl

@@ -12,7 +12,7 @@ ghost use lib.Dec.{ltb};
 ghost use lib.ListN.{length};
 ghost use Rattle.rules.specs.Source.{minimumOf};
 ghost use Rattle.rules.specs.Messages.{named, typeOf, dataOf, payloadOf};
-ghost use Rattle.messages.specs.Messages.{namedOf};
+ghost use Rattle.messages.specs.Messages.{namedOf, overlongOf};
 
 // The number of Null, which is no type of capability.
 const NULL: u8 = 0;
@@ -58,6 +58,16 @@ pub fn short(kind: Kind, d: &[u8]) -> bool
     ensures { λ r. ⌜ r ≡ ltb (length (now (d .entry))) (minimumOf (kind .0)) ⌝ }
 {
     d.len() < kind.minimum_data()
+}
+
+// Whether the data goes beyond the format of its type.
+pub fn overlong(kind: Kind, d: &[u8]) -> bool
+    ensures { λ r. ⌜ r ≡ overlongOf (kind .0) (now (d .entry)) ⌝ }
+{
+    if kind.open_ended() {
+        return false;
+    }
+    kind.minimum_data() + 1 <= d.len()
 }
 
 // Call's payload: a part of the message, and no copy.

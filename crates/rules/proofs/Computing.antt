@@ -7,7 +7,7 @@ use Rattle.rules.specs.KernelStorage.{inKernelStorage, slot, middleOf, e
 use Rattle.rules.specs.Capabilities.{number, kindAmong, kindOf, wordCount, wordOf, greatestPrefix, prefix, base, firstBits, coversKey, withinPrefix, coversAddress, withinRange, covers, within, prefixInRange}
 use Rattle.rules.specs.Procedures.{listLength, keyAt, addressOf, indexOf, countOf, kernelAddress, current, entryKey, wordsFrom, capability, capabilitiesFrom, held, listed}
 use Rattle.rules.specs.Sound.{allOf, anyOf, allPlaces, isKey, isAddress, kindSound, placeSound, wordBelongs, kindBelongs, procedureBelongs, ofListedProcedure, placeBelongs, fixedBelongs, belongs, recordBelongs, sound, soundTable}
-use Rattle.rules.specs.Messages.{typeOf, dataOf, kindOrUnknown, named, minimum, indexWord, keyWord, addressWord, writeAddress, writeValue, payloadOf, keyTooLong, addressTooLong, leadingBytes, requestOf, requestAt, addRequest, seriesFrom, series, seriesOf, malformed, orEmpty, requests, sameKind, requestedOf}
+use Rattle.rules.specs.Messages.{typeOf, dataOf, kindOrUnknown, named, minimum, openEnded, overlong, indexWord, keyWord, addressWord, writeAddress, writeValue, payloadOf, keyTooLong, addressTooLong, leadingBytes, requestOf, requestAt, addRequest, seriesFrom, series, seriesOf, malformed, orEmpty, requests, sameKind, requestedOf}
 use Rattle.rules.specs.Validation.{allowed, dataBytes, walk, passes}
 use Rattle.rules.specs.Answers.{codeNumber, codeBytes, fields, judge, outcome}
 use Rattle.rules.specs.Calls.{wrongBytes, isZero, noRoom, wordRecords, capabilityRecords, kindRecords, afterRegister, firstCapabilities, fixedRecords, fresh, setUp, turn, look, indexOutOfRange, chosen, notCovering, doCall, doSetEntry, ofProcedure, withoutProcedure, afterDelete, doDelete, doWrite, contained, testsIn, tests, tooMany, doRegister, doKind, doNamed, systemCall}
@@ -39,7 +39,7 @@ unfolding allOf anyOf allPlaces isKey isAddress kindSound placeSound wordBelongs
 computing-sound = tt
 
 unfoldable computing-messages : Unit {0}
-unfolding typeOf dataOf kindOrUnknown named minimum indexWord keyWord addressWord writeAddress writeValue payloadOf keyTooLong addressTooLong leadingBytes requestOf requestAt addRequest seriesFrom series seriesOf malformed orEmpty requests sameKind requestedOf
+unfolding typeOf dataOf kindOrUnknown named minimum openEnded overlong indexWord keyWord addressWord writeAddress writeValue payloadOf keyTooLong addressTooLong leadingBytes requestOf requestAt addRequest seriesFrom series seriesOf malformed orEmpty requests sameKind requestedOf
 computing-messages = tt
 
 unfoldable computing-validation : Unit {0}

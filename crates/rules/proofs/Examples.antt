@@ -9,8 +9,8 @@ use borrow.Author.Tests.{eq-eqb}
 use lib.Dec.{lit<}
 use Rattle.rules.specs.Words.{keyBytes, Bytes}
 use Rattle.rules.specs.Capabilities.{wordOf, prefix, base, firstBits, coversKey, covers}
-use Rattle.rules.specs.Answers.{codeNumber, codeBytes, fields, Refusal, aa, ef, x33, e1, e5, e7, e9, refuse, outcome}
-use Rattle.rules.specs.Examples.{AllTrue, P1, P2, P3, P4, P5, P6, P7, P8, P9, P10, P11, cases, Refuses, SetUpHas13Records, SetUpNeedsItsBytes, WriteSparesKernelStorage, RegisterReportsTests, RequestsAreTestedFirst, CodeIsJudgedBeforeSeries, KeyStandsOnce, KeyIsRegisteredOnce, Types8And9AreUnknown, computed}
+use Rattle.rules.specs.Answers.{codeNumber, codeBytes, fields, Refusal, aa, eb, e6, ef, x33, e1, e5, e7, e9, refuse, outcome}
+use Rattle.rules.specs.Examples.{AllTrue, P1, P2, P3, P4, P5, P6, P7, P8, P9, P10, P11, cases, Refuses, SetUpHas13Records, SetUpNeedsItsBytes, WriteSparesKernelStorage, RegisterReportsTests, RequestsAreTestedFirst, CodeIsJudgedBeforeSeries, KeyStandsOnce, KeyIsRegisteredOnce, Types8And9AreUnknown, DataEndsWithItsFormat, OverlongIsJudgedBeforeKeys, CallAndRegisterStayOpenEnded, computed}
 use Rattle.rules.proofs.Computing.{computing}
 
 no-prefix-covers-every-key : (w key : ℕ) → w < 256 ^ 31 → key < 256 ^ keyBytes → coversKey (w ∷ []) key ≡ true
@@ -111,6 +111,18 @@ types-8-and-9-are-unknown : Types8And9AreUnknown
 unfolding computing
 types-8-and-9-are-unknown = (refuses _ aa, refuses _ aa, refl, refl)
 
+data-ends-with-its-format : DataEndsWithItsFormat
+unfolding computing
+data-ends-with-its-format = (refl, refuses _ eb, refl, refuses _ eb, refl, refuses _ eb, refl, refuses _ eb)
+
+overlong-is-judged-before-keys : OverlongIsJudgedBeforeKeys
+unfolding computing
+overlong-is-judged-before-keys = (refuses _ eb, refuses _ e6)
+
+call-and-register-stay-open-ended : CallAndRegisterStayOpenEnded
+unfolding computing
+call-and-register-stay-open-ended = (refl, refuses _ e5)
+
 pub computed-hold : AllTrue computed
 unfolding computed
 computed-hold = (
@@ -125,7 +137,16 @@ computed-hold = (
           requests-are-tested-first,
           (
             code-is-judged-before-series,
-            (key-stands-once, (key-is-registered-once, (types-8-and-9-are-unknown, tt))),
+            (
+              key-stands-once,
+              (
+                key-is-registered-once,
+                (
+                  types-8-and-9-are-unknown,
+                  (data-ends-with-its-format, (overlong-is-judged-before-keys, (call-and-register-stay-open-ended, tt))),
+                ),
+              ),
+            ),
           ),
         ),
       ),

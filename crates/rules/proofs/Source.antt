@@ -3,20 +3,20 @@
 use mathlib.Core.Path.{_≡_, refl, sym, ap, _∙_}
 use mathlib.Core.Logic.{_≢_}
 use mathlib.Core.List.{List, [], _∷_}
-use mathlib.Core.Bool.{Bool, true, false, _&&_}
+use mathlib.Core.Bool.{Bool, true, false, _&&_, _||_}
 use mathlib.Core.Option.{Option, none, some}
 use Prim.Native.Nat.{ℕ, zero, suc, _+_, _/_, _%_, _≤_, _<_}
 use native.Mathlib.Nat.{div-add-mod'}
 use native.Mathlib.Omega.{arith}
-use lib.Dec.{ltb, leb}
+use lib.Dec.{eqb, ltb, leb}
 use lib.ListN.{drop, getD}
 use lib.Seq.{drop-drop}
 use borrow.Author.Tests.{ltb-true, ltb-false, ne-eqb, le-leb, lt-leb}
 use Rattle.rules.specs.Words.{Bytes}
 use Rattle.rules.specs.Capabilities.{Kind, call, register, delete, setEntry, write, kinds, number, kindAmong, kindOf, wordCount, greatestWords}
-use Rattle.rules.specs.Messages.{payloadAt, dataOf, payloadOf}
+use Rattle.rules.specs.Messages.{payloadAt, openEnded, dataOf, payloadOf}
 use Rattle.rules.specs.Answers.{codeBytes, Answer, refused, done, called, registered, looked, fields}
-use Rattle.rules.specs.Source.{isKind, wordsOf, HasWords, refusedReply, replyOf, OwnPayload, fieldsWith, fieldsOf}
+use Rattle.rules.specs.Source.{isKind, wordsOf, openEndedOf, HasWords, refusedReply, replyOf, OwnPayload, fieldsWith, fieldsOf}
 use Rattle.rules.specs.declared.Answer.{Answer as Case}
 use Rattle.rules.specs.declared.Answer.the-variants.{Refused, Done, Called, Registered, Looked}
 use Rattle.rules.specs.declared.Reply.{Reply}
@@ -62,6 +62,19 @@ is-kind n = go (ltb n 8) refl
     go false e =
         let h : 8 ≤ n = ltb-false n 8 e in
         rw (names-none n h, isKind) (simp (le-leb 3 n (omega arith), lt-leb n 7 (omega arith)))
+
+-- the types that are open-ended are 3 and 4
+pub is-open-ended : (n : ℕ) → openEndedOf n ≡ eqb n 3 || eqb n 4
+unfolding openEndedOf openEnded kindOf kindAmong number
+is-open-ended n = go (ltb n 8) refl
+  where
+    go : (b : Bool) → ltb n 8 ≡ b → openEndedOf n ≡ eqb n 3 || eqb n 4
+    go true e =
+        let h : n < 8 = ltb-true n 8 e in
+        sym (value-at openEndedOf false 8 n h) ∙ value-at (λ k. eqb k 3 || eqb k 4) false 8 n h
+    go false e =
+        let h : 8 ≤ n = ltb-false n 8 e in
+        rw (names-none n h, openEndedOf) (simp (ne-eqb n 3 (λ q. omega arith), ne-eqb n 4 (λ q. omega arith)))
 
 -- no capability has more words than the most
 pub words-bounded : (n : ℕ) → wordsOf n ≤ greatestWords

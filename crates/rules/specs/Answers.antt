@@ -9,13 +9,14 @@ use Rattle.rules.specs.Table.{Store, bytes}
 
 -- The codes, named by their last byte as the document's rows name them; 33, 66 33 and 66 77 are x33, x6633 and x77.
 pub data Refusal : Type 0 where
-  ed ef e0 ea aa e6 e4 x33 e9 e5 x77 e1 e2 e3 x6633 e8 e7 : Refusal
+  ed ef e0 ea aa eb e6 e4 x33 e9 e5 x77 e1 e2 e3 x6633 e8 e7 : Refusal
 
 abbrev pub refusals : List Refusal
 refusals =
-    ed ∷ ef ∷ e0 ∷ ea ∷ aa ∷ e6 ∷ e4 ∷ x33 ∷ e9 ∷ e5 ∷ x77 ∷ e1 ∷ e2 ∷ e3 ∷ x6633 ∷ e8 ∷ e7 ∷ []
+    ed ∷ ef ∷ e0 ∷ ea ∷ aa ∷ eb ∷ e6 ∷ e4 ∷ x33 ∷ e9 ∷ e5 ∷ x77 ∷ e1 ∷ e2 ∷ e3 ∷ x6633 ∷ e8 ∷ e7 ∷ []
 
--- a code as a number: its bytes, read as one ("Codes e0 and above are ours."). The comments are the rows of the document's table of codes.
+-- a code as a number: its bytes, read as one ("Codes e0 and above are ours."). The comments are the rows of document 01's
+-- table of codes; that of 66 eb is of document 02.
 unfoldable pub codeNumber : Refusal → ℕ
 -- "a key, address, slot key or mask of the wrong number of bytes"
 codeNumber ed = 0x66ed
@@ -27,6 +28,8 @@ codeNumber e0 = 0x66e0
 codeNumber ea = 0x66ea
 -- "type not 0, 3, 4, 5, 6, 7"
 codeNumber aa = 0xaa
+-- of document 02, No. 1: "Null, Set Entry, Delete and Write now refuse data beyond their format"
+codeNumber eb = 0x66eb
 -- "key word with a non-zero byte in its first 8; Register's address word with one in its first 12"
 codeNumber e6 = 0x66e6
 -- "Register or set-up: key or address zero (set-up: kernel address too)"

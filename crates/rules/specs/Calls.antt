@@ -12,9 +12,9 @@ use Rattle.rules.specs.KernelStorage.{inKernelStorage, addressSlot, inde
 use Rattle.rules.specs.Capabilities.{Kind, call, register, delete, setEntry, write, kinds, number, Capability, covers, within}
 use Rattle.rules.specs.Procedures.{listLength, keyAt, addressOf, indexOf, countOf, current, entryKey, capability, held, listed}
 use Rattle.rules.specs.Sound.{greatestCount, soundTable, allOf, anyOf}
-use Rattle.rules.specs.Messages.{greatestMessage, typeOf, dataOf, Named, null, unknown, ofKind, named, minimum, indexWord, keyWord, addressWord, writeAddress, writeValue, payloadOf, leadingBytes, Request, seriesOf, malformed, requests, requestedOf}
+use Rattle.rules.specs.Messages.{greatestMessage, typeOf, dataOf, Named, null, unknown, ofKind, named, minimum, overlong, indexWord, keyWord, addressWord, writeAddress, writeValue, payloadOf, leadingBytes, Request, seriesOf, malformed, requests, requestedOf}
 use Rattle.rules.specs.Validation.{passes}
-use Rattle.rules.specs.Answers.{ed, ef, e0, ea, aa, e6, e4, x33, e9, e5, x77, e1, e2, e3, x6633, e8, e7, done, called, registered, looked, Result, refuse, answer, change, _⇒_, _then_, Outcome, outcome}
+use Rattle.rules.specs.Answers.{ed, ef, e0, ea, aa, eb, e6, e4, x33, e9, e5, x77, e1, e2, e3, x6633, e8, e7, done, called, registered, looked, Result, refuse, answer, change, _⇒_, _then_, Outcome, outcome}
 
 -- 66 ed: "a key, address, slot key or mask of the wrong number of bytes"
 unfoldable pub wrongBytes : ℕ → Bytes → Bool
@@ -224,13 +224,17 @@ doKind rooms s d code mask delete = doDelete s d
 doKind rooms s d code mask setEntry = doSetEntry s d
 doKind rooms s d code mask write = doWrite rooms s d
 
--- "aa, then Null succeeds; short data; e6; then" the row of the message's own type.
--- "Longer data is ignored for Null, Set Entry, Delete and Write."
+-- "aa, then Null succeeds; short data; e6; then" the row of the message's own type; and, of document 02, No. 1:
+-- "66 eb, directly after short data and before 66 e6; for Null, where it would have succeeded." Null's format has no data.
 unfoldable pub doNamed : (rooms : ℕ) → Store → (d code mask : Bytes) → Named → Result
-doNamed rooms s d code mask null = answer done
+doNamed rooms s d code mask null =
+    ltb 0 (length d) ⇒ eb
+    ∷ []
+    then answer done
 doNamed rooms s d code mask unknown = refuse aa
 doNamed rooms s d code mask (ofKind kind) =
     ltb (length d) (minimum kind) ⇒ e0
+    ∷ overlong kind d ⇒ eb
     ∷ leadingBytes kind d ⇒ e6
     ∷ []
     then doKind rooms s d code mask kind

@@ -16,7 +16,7 @@ use Rattle.rules.specs.Capabilities.{Kind, call, register, delete, setEn
 use Rattle.rules.specs.Procedures.{keyAt, addressOf, indexOf, countOf, current, capability, held, InList, Listed}
 use Rattle.rules.specs.Sound.{SoundTable}
 use Rattle.rules.specs.Messages.{typeOf, dataOf, Named, null, unknown, ofKind, named, minimum, indexWord, keyWord, writeAddress, writeValue}
-use Rattle.rules.specs.Answers.{Refusal, ed, ef, e0, ea, aa, e6, e4, x33, e9, e5, x77, e1, e2, e3, x6633, e8, e7, refused, fields, Outcome}
+use Rattle.rules.specs.Answers.{Refusal, ed, ef, e0, ea, aa, eb, e6, e4, x33, e9, e5, x77, e1, e2, e3, x6633, e8, e7, refused, fields, Outcome}
 use Rattle.rules.specs.Calls.{setUp, turn, look, systemCall}
 
 -- any of the four calls, by what it is lent beside the table
@@ -51,16 +51,16 @@ perform K t (calling m code mask) = K .calls t m code mask
 
 -- DEMAND 1. "Every call, on any table and any message, ends with a listed answer. Nobody has to check first. A refusal gives
 -- its code and changes no byte." So the statement has no condition but that bytes are lent.
--- The codes that a call may be refused with, as its row of document 01 prints them:
+-- The codes that a call may be refused with, as its row of document 01 prints them, and 66 eb where document 02, No. 1 puts it:
 abbrev pub codesOfKind : Kind → List Refusal
 codesOfKind call = e6 ∷ x33 ∷ x6633 ∷ []
 codesOfKind register = e6 ∷ e4 ∷ x33 ∷ e9 ∷ e5 ∷ x77 ∷ e1 ∷ e8 ∷ e7 ∷ []
-codesOfKind delete = e6 ∷ x33 ∷ e2 ∷ x6633 ∷ e3 ∷ []
-codesOfKind setEntry = e6 ∷ x33 ∷ x6633 ∷ []
-codesOfKind write = x33 ∷ e7 ∷ []
+codesOfKind delete = eb ∷ e6 ∷ x33 ∷ e2 ∷ x6633 ∷ e3 ∷ []
+codesOfKind setEntry = eb ∷ e6 ∷ x33 ∷ x6633 ∷ []
+codesOfKind write = eb ∷ x33 ∷ e7 ∷ []
 
 abbrev pub codesOfNamed : Named → List Refusal
-codesOfNamed null = []
+codesOfNamed null = eb ∷ []
 codesOfNamed unknown = aa ∷ []
 codesOfNamed (ofKind kind) = e0 ∷ codesOfKind kind
 

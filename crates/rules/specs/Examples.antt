@@ -1,5 +1,5 @@
--- The document's examples ("Both sides of each rule") as statements: P1 to P11 are the list `cases`, the others the list
--- `computed`. Each list has one claim, that all of it is true: `P1-to-P11` and `computed-hold` of proofs/Examples.
+-- Document 01's examples ("Both sides of each rule"), and those of document 02's requests, as statements: P1 to P11 are the list
+-- `cases`, all others the list `computed`. Each list has one claim, that all of it is true: `P1-to-P11` and `computed-hold` of proofs/Examples.
 use Prim.Native.Nat.{ℕ, zero, suc, _+_, _*_, _^_, _-_, _<_}
 use Prim.Native.Char.{code}
 use mathlib.Core.Path.{_≡_}
@@ -13,7 +13,7 @@ use Rattle.rules.specs.Capabilities.{Kind, call, register, delete, setEn
 use Rattle.rules.specs.Procedures.{listLength, keyAt, indexOf, current, entryKey}
 use Rattle.rules.specs.Messages.{series, malformed}
 use Rattle.rules.specs.Validation.{passes}
-use Rattle.rules.specs.Answers.{fields, done, registered, Outcome}
+use Rattle.rules.specs.Answers.{fields, done, called, registered, Outcome}
 use Rattle.rules.specs.Calls.{setUp, systemCall}
 
 -- every statement of a list is true
@@ -50,9 +50,12 @@ wordsInBytes (w ∷ ws) = word w ++ wordsInBytes ws
 abbrev pub requested : Kind → Capability → List ℕ
 requested kind c = (1 + length c) ∷ number kind ∷ c
 
--- a message: its type, then the words of its data. Each of the three below uses the first capability of its type.
+-- a message: its type, then the words of its data. Each of the five below uses the first capability of its type.
 abbrev pub message : Kind → (words : List ℕ) → Bytes
 message kind words = number kind ∷ wordsInBytes words
+
+abbrev pub callMessage : (key : ℕ) → Bytes
+callMessage key = message call (0 ∷ key ∷ [])
 
 -- Register of a key, with the address 33
 abbrev pub registerMessage : (key : ℕ) → (requests : List ℕ) → Bytes
@@ -60,6 +63,9 @@ registerMessage key requests = message register (0 ∷ key ∷ 0x33 ∷ requests
 
 abbrev pub deleteMessage : (key : ℕ) → Bytes
 deleteMessage key = message delete (0 ∷ key ∷ [])
+
+abbrev pub setEntryMessage : (key : ℕ) → Bytes
+setEntryMessage key = message setEntry (0 ∷ key ∷ [])
 
 abbrev pub writeMessage : (address value : ℕ) → Bytes
 writeMessage address value = message write (0 ∷ address ∷ value ∷ [])
@@ -278,7 +284,39 @@ Types8And9AreUnknown =
     × (malformed (series (wordsInBytes (1 ∷ 8 ∷ []))) ≡ true)
     × (malformed (series (wordsInBytes (1 ∷ 9 ∷ []))) ≡ true)
 
--- the examples that are not marked P; what the program prints is in the crate examples
+-- a message and one byte more
+abbrev pub withOneMore : Bytes → Bytes
+withOneMore m = m ++ (0 ∷ [])
+
+-- a word that is no key: 1 stands in its first 8 bytes
+abbrev pub noKey : ℕ
+noKey = 256 ^ keyBytes
+
+-- 66 eb: 64 data bytes and 65 of Delete and Set Entry, 96 and 97 of Write, `00` and `0000`
+abbrev pub DataEndsWithItsFormat : Type 0
+DataEndsWithItsFormat =
+    (sending withThree (deleteMessage K2) .answer ≡ done)
+    × Refuses (0x66 ∷ 0xeb ∷ []) withThree (sending withThree (withOneMore (deleteMessage K2)))
+    × (sending (setUpTable 832) (setEntryMessage K1) .answer ≡ done)
+    × Refuses (0x66 ∷ 0xeb ∷ []) (setUpTable 832) (sending (setUpTable 832) (withOneMore (setEntryMessage K1)))
+    × (sending (setUpTable 896) (writeMessage lastBeforeKernelStorage 5) .answer ≡ done)
+    × Refuses (0x66 ∷ 0xeb ∷ []) (setUpTable 896) (sending (setUpTable 896) (withOneMore (writeMessage lastBeforeKernelStorage 5)))
+    × (sending (setUpTable 832) (0x00 ∷ []) .answer ≡ done)
+    × Refuses (0x66 ∷ 0xeb ∷ []) (setUpTable 832) (sending (setUpTable 832) (0x00 ∷ 0x00 ∷ []))
+
+-- "directly after short data and before 66 e6": of a word that is no key, 65 data bytes answer 66 eb, and 64 answer 66 e6
+abbrev pub OverlongIsJudgedBeforeKeys : Type 0
+OverlongIsJudgedBeforeKeys =
+    Refuses (0x66 ∷ 0xeb ∷ []) (setUpTable 832) (sending (setUpTable 832) (withOneMore (deleteMessage noKey)))
+    × Refuses (0x66 ∷ 0xe6 ∷ []) (setUpTable 832) (sending (setUpTable 832) (deleteMessage noKey))
+
+-- "Call and Register stay open-ended": one byte more is Call's payload, and in Register a series that is cut
+abbrev pub CallAndRegisterStayOpenEnded : Type 0
+CallAndRegisterStayOpenEnded =
+    (sending (setUpTable 832) (withOneMore (callMessage K1)) .answer ≡ called (bytesOf addressBytes 0x11) (0 ∷ []))
+    × Refuses (0x66 ∷ 0xe5 ∷ []) (setUpTable 832) (sending (setUpTable 832) (withOneMore (registerMessage K2 [])))
+
+-- the examples of 01 that are not marked P, then those of document 02; what the program prints is in the crate examples
 unfoldable pub computed : List (Type 0)
 computed =
     SetUpHas13Records
@@ -290,4 +328,7 @@ computed =
     ∷ KeyStandsOnce
     ∷ KeyIsRegisteredOnce
     ∷ Types8And9AreUnknown
+    ∷ DataEndsWithItsFormat
+    ∷ OverlongIsJudgedBeforeKeys
+    ∷ CallAndRegisterStayOpenEnded
     ∷ []

@@ -1,9 +1,9 @@
 -- Messages: the type, the fields of each, and Register's series of capabilities.
 use Prim.Native.Nat.{ℕ, zero, suc, _+_, _/_, _%_, _^_}
 use mathlib.Core.List.{List, [], _∷_}
-use mathlib.Core.Bool.{Bool, true, false, _&&_, _||_}
+use mathlib.Core.Bool.{Bool, true, false, not, _&&_, _||_}
 use mathlib.Core.Option.{Option, none, some}
-use lib.Dec.{eqb, leb}
+use lib.Dec.{eqb, leb, ltb}
 use lib.ListN.{length, take, drop, getD}
 use Rattle.rules.specs.Words.{keyBytes, addressBytes, wordBytes, Bytes, wordAt, words}
 use Rattle.rules.specs.Capabilities.{Kind, call, register, delete, setEntry, write, kindOf, number, wordCount, Capability, prefixInRange}
@@ -49,6 +49,19 @@ minimum register = seriesAt
 minimum delete = 64
 minimum setEntry = 64
 minimum write = 96
+
+-- 66 eb, of document 02, No. 1: "Null, Set Entry, Delete and Write now refuse data beyond their format; Call and Register stay
+-- open-ended. This amends 01's sentence on longer data" ("Longer data is ignored for Null, Set Entry, Delete and Write."). The format
+-- of a type that is not open-ended is its minimum.
+unfoldable pub openEnded : Kind → Bool
+openEnded call = true
+openEnded register = true
+openEnded delete = false
+openEnded setEntry = false
+openEnded write = false
+
+unfoldable pub overlong : Kind → Bytes → Bool
+overlong kind d = not (openEnded kind) && ltb (minimum kind) (length d)
 
 unfoldable pub indexWord : Bytes → ℕ
 indexWord d = wordAt d 0

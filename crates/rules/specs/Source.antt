@@ -10,7 +10,7 @@ use Rattle.rules.specs.Table.{recordSize, greatestTable}
 use Rattle.rules.specs.KernelStorage.{kernelMark}
 use Rattle.rules.specs.Capabilities.{Kind, kinds, number, kindOf, wordCount, greatestWords, greatestPrefix}
 use Rattle.rules.specs.Sound.{greatestCount}
-use Rattle.rules.specs.Messages.{greatestMessage, dataOf, payloadAt, seriesAt, minimum, payloadOf}
+use Rattle.rules.specs.Messages.{greatestMessage, dataOf, payloadAt, seriesAt, minimum, openEnded, payloadOf}
 use Rattle.rules.specs.Validation.{greatestCode}
 use Rattle.rules.specs.Answers.{refusals, codeNumber, codeBytes, Answer, refused, done, called, registered, looked, Fields, noAddress, noValue}
 use Rattle.rules.specs.Calls.{greatestList}
@@ -28,6 +28,9 @@ wordsOf n = elim (kindOf n) [ none ↦ 0 | some kind ↦ wordCount kind ]
 
 unfoldable pub minimumOf : ℕ → ℕ
 minimumOf n = elim (kindOf n) [ none ↦ 0 | some kind ↦ minimum kind ]
+
+unfoldable pub openEndedOf : ℕ → Bool
+openEndedOf n = elim (kindOf n) [ none ↦ false | some kind ↦ openEnded kind ]
 
 -- what P says of the type that a number names; nothing if it names none
 abbrev pub OfType : (n : ℕ) → (P : Kind → Type 0) → Type 0

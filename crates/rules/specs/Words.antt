@@ -4,7 +4,8 @@
 -- of the same name in lower case: `RecordForm` and `recordForm`, `Ascending` and `ascending`, `Listed` and `listed`, `IsKey` and
 -- `isKey`, `IsAddress` and `isAddress`, `Belongs` and `belongs`, `Sound` and `sound`, `SoundTable` and `soundTable`. The calls use
 -- the tests; the laws show that test and sentence say the same. "This statement decides where they differ": where the Beaker
--- texts differ from document 01 or from each other, these files say what 01 says.
+-- texts differ from document 01 or from each other, these files say what 01 says. What document 02 has changed of it is quoted where it
+-- stands.
 use Prim.Native.Nat.{ℕ, zero, suc, _+_, _*_, _/_, _%_, _<_}
 use mathlib.Core.List.{List, [], _∷_}
 use mathlib.Core.Bool.{Bool, true, false}

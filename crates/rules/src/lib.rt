@@ -1,9 +1,9 @@
-// The rules. Document 01 stands as definitions in specs/. Here stand its numbers, named once, and the types that the
+// The rules. Document 01, with what 02 has changed, stands as definitions in specs/. Here stand its numbers, named once, and the types that the
 // other crates share; `named_numbers` shows that the numbers here and in specs/ are the same ones.
 ghost use mathlib.Core.Path.{_≡_};
 ghost use Rattle.rules.specs.Words.{Bytes};
 ghost use Rattle.rules.specs.Answers.{done, called, registered, looked};
-ghost use Rattle.rules.specs.Source.{isKind, HasWords, minimumOf, refusedReply, replyOf, ruleNumbers};
+ghost use Rattle.rules.specs.Source.{isKind, HasWords, minimumOf, openEndedOf, refusedReply, replyOf, ruleNumbers};
 
 // The bytes of a procedure's key.
 pub const KEY_BYTES: usize = 24;
@@ -116,9 +116,21 @@ impl Kind {
             0
         }
     }
+
+    // Whether a message of the type may have more data than its minimum; false if the number names no type.
+    pub fn open_ended(self) -> bool
+        ensures { λ r. ⌜ r ≡ openEndedOf (self .0) ⌝ }
+    {
+        let type_number = self.0;
+        if type_number == Kind::CALL.0 {
+            return true;
+        }
+        type_number == Kind::REGISTER.0
+    }
 }
 
-// A refusal's code: its one or two bytes, read as one number. The comments are the rows of document 01's table of codes.
+// A refusal's code: its one or two bytes, read as one number. The comments are the rows of document 01's table of codes;
+// that of 66 eb is of document 02.
 pub struct Refusal(pub u16);
 
 impl Refusal {
@@ -132,6 +144,8 @@ impl Refusal {
     pub const MESSAGE_TOO_LONG: Refusal = Refusal(0x66ea);
     // type not 0, 3, 4, 5, 6, 7
     pub const UNKNOWN_TYPE: Refusal = Refusal(0xaa);
+    // Null, Set Entry, Delete, Write: data beyond their format (of document 02, No. 1)
+    pub const OVERLONG: Refusal = Refusal(0x66eb);
     // key word with a non-zero byte in its first 8; Register's address word with one in its first 12
     pub const LEADING_BYTES: Refusal = Refusal(0x66e6);
     // Register or set-up: key or address zero (set-up: kernel address too)
@@ -237,7 +251,7 @@ pub struct Numbers {
     pub sizes: [usize; 13],
     pub mark: [u8; 4],
     pub types: [u8; 5],
-    pub codes: [u16; 17],
+    pub codes: [u16; 18],
 }
 
 const SIZES: [usize; 13] = [
@@ -264,12 +278,13 @@ const TYPE_NUMBERS: [u8; 5] = [
     Kind::WRITE.0,
 ];
 
-const CODES: [u16; 17] = [
+const CODES: [u16; 18] = [
     Refusal::WRONG_BYTES.0,
     Refusal::UNSOUND.0,
     Refusal::SHORT.0,
     Refusal::MESSAGE_TOO_LONG.0,
     Refusal::UNKNOWN_TYPE.0,
+    Refusal::OVERLONG.0,
     Refusal::LEADING_BYTES.0,
     Refusal::ZERO.0,
     Refusal::NOT_COVERED.0,

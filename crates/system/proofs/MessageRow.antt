@@ -1,24 +1,24 @@
 -- The row before a message's own type: what its type names, its data's length, and leading bytes.
-use Prim.Native.Nat.{ℕ, _≤_}
+use Prim.Native.Nat.{ℕ, _≤_, _<_}
 use native.Mathlib.Omega.{arith}
 use mathlib.Core.Path.{_≡_, refl, sym, ap, _∙_}
 use mathlib.Core.Bool.{Bool, true, false}
 use lib.Dec.{ltb}
 use lib.ListN.{length, length-drop}
-use borrow.Author.Tests.{ltb-false}
+use borrow.Author.Tests.{ltb-false, lt-ltb, le-ltb}
 use Rattle.rules.specs.Words.{Bytes, wordBytes}
 use Rattle.rules.specs.Table.{room, store}
 use Rattle.rules.specs.Capabilities.{Kind, number}
-use Rattle.rules.specs.Messages.{Named as Meaning, null, unknown, ofKind, greatestMessage, dataOf, minimum, leadingBytes}
-use Rattle.rules.specs.Answers.{aa, e0, e6, codeNumber, done, outcome}
+use Rattle.rules.specs.Messages.{Named as Meaning, null, unknown, ofKind, greatestMessage, dataOf, minimum, overlong, leadingBytes}
+use Rattle.rules.specs.Answers.{aa, e0, eb, e6, codeNumber, done, outcome}
 use Rattle.rules.specs.Calls.{doKind, doNamed}
 use Rattle.rules.specs.Source.{refusedReply, replyOf, minimumOf, OfType}
 use Rattle.rules.specs.declared.Reply.{Reply}
 use Rattle.rules.specs.declared.Kind.{Kind as Number}
-use Rattle.messages.specs.Messages.{namedOf}
+use Rattle.messages.specs.Messages.{namedOf, overlongOf}
 use Rattle.messages.specs.declared.Named.{Named}
 use Rattle.messages.specs.declared.Named.the-variants.{Null, Unknown, Of}
-use Rattle.messages.proofs.Types.{minimum-number}
+use Rattle.messages.proofs.Types.{minimum-number, overlong-number}
 use Rattle.results.specs.Results.{Gives}
 use Rattle.results.proofs.Rows.{refusal, answers, refuses, passes, ends}
 use Rattle.system.specs.System.{Acceptable}
@@ -59,59 +59,71 @@ module _ (m : Meaning) {r : Named} (e : r ≡ namedOf m) where
           let same : record { 0 = number kind } ≡ k = cc in
           record { kind = kind; is = refl; names = ap (λ (x : Number). x .0) same }
 
+-- what the source finds of the data is what the rules say of it
+module _ (d : Bytes) {m : Meaning} {n : ℕ} (named : NamesType m n) where
+  is-short : {s b : Bool} → s ≡ ltb (length d) (minimumOf n) → s ≡ b → ltb (length d) (minimum (named .kind)) ≡ b
+  is-short e q =
+      let its-minimum = ap minimumOf (sym (named .names)) ∙ minimum-number (named .kind) in
+      ap (ltb (length d)) (sym its-minimum) ∙ sym e ∙ q
+
+  is-overlong : {o b : Bool} → o ≡ overlongOf n d → o ≡ b → overlong (named .kind) d ≡ b
+  is-overlong e q = sym (overlong-number (named .kind) d) ∙ ap (λ (x : ℕ). overlongOf x d) (named .names) ∙ sym e ∙ q
+
+  has-leading : {l b : Bool} → OfType n (λ k. l ≡ leadingBytes k d) → l ≡ b → leadingBytes (named .kind) d ≡ b
+  has-leading e q = sym (e (named .kind) (named .names)) ∙ q
+
+-- data that is not short and has no leading bytes is what the type's own row asks
+pub acceptable : (d mask : Bytes) {m : Meaning} {n : ℕ} (named : NamesType m n) {s l : Bool} → s ≡ ltb (length d) (minimumOf n) → s ≡ false
+    → OfType n (λ k. l ≡ leadingBytes k d) → l ≡ false → length d ≤ greatestMessage → length mask ≡ wordBytes → Acceptable n d mask
+acceptable d mask named e notShort g leads notLonger size =
+    record {
+      kind = named .kind;
+      names = named .names;
+      long = ltb-false (length d) (minimum (named .kind)) (is-short d named e notShort);
+      notLonger = notLonger;
+      leads = has-leading d named g leads;
+      maskSize = size;
+    }
+
 module _ (t d code mask : Bytes) (m : Meaning) where
   abbrev row : Reply → Bytes → Type 0
   row r t′ = Gives (outcome t (doNamed (room t) (store t) d code mask m)) r t′
 
-  pub null-done : m ≡ null → {r : Reply} → r ≡ replyOf done → row r t
+  pub null-refused : m ≡ null → 0 < length d → {r : Reply} → r ≡ refusedReply (codeNumber eb) → row r t
   unfolding doNamed
-  null-done q f = rw q (answers t done f)
+  null-refused q more f = rw (q, refuses (lt-ltb 0 (length d) more)) (refusal t eb f)
+
+  pub null-done : m ≡ null → length d ≤ 0 → {r : Reply} → r ≡ replyOf done → row r t
+  unfolding doNamed
+  null-done q empty f = rw (q, passes (le-ltb 0 (length d) empty), ends) (answers t done f)
 
   pub unknown-refused : m ≡ unknown → {r : Reply} → r ≡ refusedReply (codeNumber aa) → row r t
   unfolding doNamed
   unknown-refused q f = rw q (refusal t aa f)
 
   module _ {n : ℕ} (named : NamesType m n) {s : Bool} (e : s ≡ ltb (length d) (minimumOf n)) where
-    abbrev kind : Kind
-    kind = named .kind
-
-    its-minimum : minimumOf n ≡ minimum kind
-    its-minimum = ap minimumOf (sym (named .names)) ∙ minimum-number kind
-
-    is-short : {b : Bool} → s ≡ b → ltb (length d) (minimum kind) ≡ b
-    is-short q = ap (ltb (length d)) (sym its-minimum) ∙ sym e ∙ q
-
     pub short-refused : s ≡ true → {r : Reply} → r ≡ refusedReply (codeNumber e0) → row r t
     unfolding doNamed
-    short-refused q f = rw (named .is, refuses (is-short q)) (refusal t e0 f)
+    short-refused q f = rw (named .is, refuses (is-short d named e q)) (refusal t e0 f)
 
-    module _ (long : s ≡ false) where
-      pub data-long : minimumOf n ≤ length d
-      data-long = ltb-false (length d) (minimumOf n) (sym e ∙ long)
+    module _ (notShort : s ≡ false) {o : Bool} (v : o ≡ overlongOf n d) where
+      pub overlong-refused : o ≡ true → {r : Reply} → r ≡ refusedReply (codeNumber eb) → row r t
+      unfolding doNamed
+      overlong-refused q f = rw (named .is, passes (is-short d named e notShort), refuses (is-overlong d named v q)) (refusal t eb f)
 
-      module _ {l : Bool} (g : OfType n (λ k. l ≡ leadingBytes k d)) where
-        has-leading : {b : Bool} → l ≡ b → leadingBytes kind d ≡ b
-        has-leading q = sym (g kind (named .names)) ∙ q
-
+      module _ (notOverlong : o ≡ false) {l : Bool} (g : OfType n (λ k. l ≡ leadingBytes k d)) where
         pub leading-refused : l ≡ true → {r : Reply} → r ≡ refusedReply (codeNumber e6) → row r t
         unfolding doNamed
-        leading-refused q f = rw (named .is, passes (is-short long), refuses (has-leading q)) (refusal t e6 f)
-
-        pub acceptable : l ≡ false → length d ≤ greatestMessage → length mask ≡ wordBytes → Acceptable n d mask
-        acceptable q notLonger size =
-            record {
-              kind = kind;
-              names = named .names;
-              long = ltb-false (length d) (minimum kind) (is-short long);
-              notLonger = notLonger;
-              leads = has-leading q;
-              maskSize = size;
-            }
+        leading-refused q f =
+            rw (named .is, passes (is-short d named e notShort), passes (is-overlong d named v notOverlong), refuses (has-leading d named g q))
+            (refusal t e6 f)
 
         pub own-row : l ≡ false → {r : Reply} {t′ : Bytes} → OfType n (λ k. Gives (outcome t (doKind (room t) (store t) d code mask k)) r t′)
             → row r t′
         unfolding doNamed
-        own-row q f = rw (named .is, passes (is-short long), passes (has-leading q), ends) (f kind (named .names))
+        own-row q f =
+            rw (named .is, passes (is-short d named e notShort), passes (is-overlong d named v notOverlong), passes (has-leading d named g q), ends)
+            (f (named .kind) (named .names))
 
 -- the data is no longer than the message
 pub data-short : (m : Bytes) → length m ≤ greatestMessage → length (dataOf m) ≤ greatestMessage

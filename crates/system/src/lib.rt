@@ -37,21 +37,34 @@ fn of_kind(t: &mut [u8], used: usize, kind: Kind, d: &[u8], code: &[u8], mask: &
     calls::write(t, used, d)
 }
 
-// A message on a sound table: aa, then Null succeeds; 66 e0 for short data, 66 e6; then its type's own row.
+// A message on a sound table: aa; then Null, which is 66 eb with data and succeeds without; 66 e0 for short data, 66 eb, 66 e6;
+// then its type's own row.
 pub fn of_message(t: &mut [u8], used: usize, message: &[u8], code: &[u8], mask: &[u8]) -> Reply
     requires { ⌜ SoundWith (now t) used ⌝ }
     requires { ⌜ (length (now message) ≤ greatestMessage) × (length (now mask) ≡ wordBytes) ⌝ }
     ensures { λ r. ⌜ Gives (outcome (now (t .entry)) (doNamed (room (now (t .entry))) (store (now (t .entry))) (dataOf (now (message .entry))) (now (code .entry)) (now (mask .entry)) (named (typeOf (now (message .entry)))))) r (now (t .exit)) ⌝ }
 {
+    let d = messages::data_of(message);
     match messages::kind_of(message) {
         Named::Unknown => Reply::refused(Refusal::UNKNOWN_TYPE),
-        Named::Null => Reply::done(),
+        Named::Null => {
+            if 0 < d.len() {
+                Reply::refused(Refusal::OVERLONG)
+            } else {
+                Reply::done()
+            }
+        }
         Named::Of(kind) => {
-            let d = messages::data_of(message);
             if messages::short(kind, d) {
                 return Reply::refused(Refusal::SHORT);
             }
-            if messages::leading(kind, d) {
+            // Both are asked first, so that nothing but the order of the two tests says which code comes first.
+            let overlong = messages::overlong(kind, d);
+            let leading = messages::leading(kind, d);
+            if overlong {
+                return Reply::refused(Refusal::OVERLONG);
+            }
+            if leading {
                 return Reply::refused(Refusal::LEADING_BYTES);
             }
             of_kind(t, used, kind, d, code, mask)

@@ -17,6 +17,7 @@ const WRONG_SIZE: Code = 0x66ed;
 const TOO_SHORT: Code = 0x66e0;
 const TOO_LONG: Code = 0x66ea;
 const UNKNOWN_TYPE: Code = 0xaa;
+const OVERLONG: Code = 0x66eb;
 const LEADING_BYTES: Code = 0x66e6;
 const NOT_LISTED: Code = 0x6633;
 const IS_ENTRY: Code = 0x66e2;
@@ -24,8 +25,14 @@ const IS_CURRENT: Code = 0x66e3;
 
 const LONGEST_MESSAGE: usize = 65_536;
 
+/// The type of a message that does nothing.
+const NULL: usize = 0;
+
 /// The least data of a message, by type.
 const LEAST_DATA: [usize; 8] = [0, 0, 0, 64, 96, 64, 64, 96];
+
+/// The most data of a message, by type: Call and Register have only the message's own limit.
+const MOST_DATA: [usize; 8] = [0, 0, 0, LONGEST_MESSAGE, LONGEST_MESSAGE, 64, 64, 96];
 const PAYLOAD: usize = 65;
 
 /// Offsets of a message's words.
@@ -174,11 +181,12 @@ fn judge_system_call(
     let at = layout(records).ok_or(NOT_SOUND)?;
     let of = usize::from(*message.first().ok_or(TOO_SHORT)?);
     refuse_if(message.len() > LONGEST_MESSAGE, TOO_LONG)?;
-    if of == 0 {
+    refuse_if(of != NULL && !is_type(of), UNKNOWN_TYPE)?;
+    refuse_if(message.len() - 1 < LEAST_DATA[of], TOO_SHORT)?;
+    refuse_if(message.len() - 1 > MOST_DATA[of], OVERLONG)?;
+    if of == NULL {
         return Ok(SUCCESS);
     }
-    refuse_if(!is_type(of), UNKNOWN_TYPE)?;
-    refuse_if(message.len() - 1 < LEAST_DATA[of], TOO_SHORT)?;
     refuse_if(of != WRITE && limb(message, KEY_AT) != 0, LEADING_BYTES)?;
     match of {
         CALL => call(records, &at, message),

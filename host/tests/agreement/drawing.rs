@@ -161,7 +161,7 @@ impl Draw<'_> {
 
     fn on_key(&self, random: &mut Random, of: Type) -> Vec<u8> {
         let mut message = message(of, &[self.index(random, of), self.key_word(random)]);
-        if random.per_mille(400) {
+        if of == Type::Call && random.per_mille(400) {
             let payload = random.below(40);
             message.extend(random.bytes(payload));
         }
@@ -326,11 +326,15 @@ fn spoil_leading_bytes(random: &mut Random, mut word: Word, leading: usize) -> W
     word
 }
 
-/// A message sometimes cut, sometimes longer than any may be.
+/// A message sometimes cut, sometimes with bytes after its end, sometimes longer than any may be.
 fn spoil_a_length(random: &mut Random, mut message: Vec<u8>) -> Vec<u8> {
     if random.per_mille(25) {
         let length = random.below(message.len() + 1);
         message.truncate(length);
+    }
+    if random.per_mille(30) {
+        let more = random.within(1..=40);
+        message.extend(random.bytes(more));
     }
     // Short messages come from few draws, which are to meet every check too.
     let share = if message.len() < 2 { 60 } else { 10 };

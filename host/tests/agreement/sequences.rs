@@ -22,20 +22,28 @@ const ROWS: [(&str, &[Code]); 11] = [
     ("Look", &[&[], WRONG_SIZE, NOT_SOUND]),
     ("empty", &[WRONG_SIZE, NOT_SOUND, TOO_SHORT]),
     ("unknown", &[UNKNOWN_TYPE]),
-    ("Null", &[&[]]),
+    ("Null", &[&[], OVERLONG]),
     (
         "Call",
         &[&[], TOO_SHORT, LEADING_BYTES, NO_RIGHT, NOT_LISTED],
     ),
     (
         "Set Entry",
-        &[&[], TOO_SHORT, LEADING_BYTES, NO_RIGHT, NOT_LISTED],
+        &[
+            &[],
+            TOO_SHORT,
+            OVERLONG,
+            LEADING_BYTES,
+            NO_RIGHT,
+            NOT_LISTED,
+        ],
     ),
     (
         "Delete",
         &[
             &[],
             TOO_SHORT,
+            OVERLONG,
             LEADING_BYTES,
             NO_RIGHT,
             IS_ENTRY,
@@ -43,7 +51,7 @@ const ROWS: [(&str, &[Code]); 11] = [
             IS_CURRENT,
         ],
     ),
-    ("Write", &[&[], TOO_SHORT, NO_RIGHT, NO_ROOM]),
+    ("Write", &[&[], TOO_SHORT, OVERLONG, NO_RIGHT, NO_ROOM]),
     ("Register", REGISTER),
 ];
 const REGISTER: &[Code] = &[

@@ -11,6 +11,7 @@ pub const NOT_SOUND: Code = &[0x66, 0xef];
 pub const TOO_SHORT: Code = &[0x66, 0xe0];
 pub const TOO_LONG: Code = &[0x66, 0xea];
 pub const UNKNOWN_TYPE: Code = &[0xaa];
+pub const OVERLONG: Code = &[0x66, 0xeb];
 pub const LEADING_BYTES: Code = &[0x66, 0xe6];
 pub const ZERO_FIELD: Code = &[0x66, 0xe4];
 pub const NO_RIGHT: Code = &[0x33];

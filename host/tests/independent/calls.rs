@@ -83,6 +83,8 @@ fn judge_look(table: &[u8], slot: &[u8]) -> Result<Success, Code> {
 }
 
 /// "System calls: ef, empty, ea, aa, then Null succeeds; short data; e6; then" the row of the type.
+/// Document 02, No. 1: "66 eb, directly after short data and before 66 e6; for Null, where it would
+/// have succeeded."
 fn judge_system_call(
     table: &[u8],
     message: &[u8],
@@ -93,11 +95,14 @@ fn judge_system_call(
     let before = Sound::read(table).ok_or(NOT_SOUND)?;
     refuse_if(message.is_empty(), TOO_SHORT)?;
     refuse_if(message.len() > LONGEST_MESSAGE, TOO_LONG)?;
+    let data = message.len() - 1;
     if message[0] == NULL {
+        refuse_if(data > 0, OVERLONG)?;
         return Ok(unchanged());
     }
     let of = Type::of(message[0]).ok_or(UNKNOWN_TYPE)?;
-    refuse_if(message.len() - 1 < least_data(of), TOO_SHORT)?;
+    refuse_if(data < least_data(of), TOO_SHORT)?;
+    refuse_if(!open_ended(of) && data > least_data(of), OVERLONG)?;
     match of {
         Type::Call => call(&before, message, key_word(message)?),
         Type::SetEntry => set_entry(before, message, key_word(message)?),

@@ -17,6 +17,12 @@ pub fn least_data(of: Type) -> usize {
     }
 }
 
+/// Whether data of a type may go on after that: "Null, Set Entry, Delete and Write now refuse data
+/// beyond their format; Call and Register stay open-ended."
+pub fn open_ended(of: Type) -> bool {
+    matches!(of, Type::Call | Type::Register)
+}
+
 /// Where Call's payload begins and where Register's series begins, counted from the message's first
 /// byte.
 pub const PAYLOAD: usize = 65;

@@ -1,8 +1,9 @@
-//! Document 01 read once more, as plain Rust: what the kernel must answer and leave behind.
+//! Document 01, with what 02 has changed, read once more, as plain Rust: what the kernel must
+//! answer and leave behind.
 //!
 //! It shares nothing with the kernel: no code, no order of steps beyond the printed one. It copies
 //! the table into a map, tries every clause in turn and never minds how long that takes. Read it
-//! beside 01, in this order:
+//! beside them, in this order:
 //!
 //! - `words`: numbers of 32 bytes, and sums that never wrap
 //! - `storage`: the storage table, and the slots of kernel storage
