@@ -18,7 +18,7 @@ use Rattle.rules.specs.Calls.{setUp, turn, look, systemCall}
 use Rattle.rules.proofs.Source.{reply-fields}
 
 -- a code is found by its number
-refusal-back : (c : Refusal) → refusalAmong refusals (codeNumber c) ≡ c
+pub refusal-back : (c : Refusal) → refusalAmong refusals (codeNumber c) ≡ c
 unfolding refusalAmong codeNumber
 refusal-back ed = refl
 refusal-back ef = refl

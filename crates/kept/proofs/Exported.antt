@@ -1,15 +1,16 @@
 -- The exported functions, read back, are a kernel that meets the three demands: each call is refused or has the one kind of success
 -- that its row ends in, so a host that knows its call reads the defined answer, which is demand 2; and that meets the other two.
-use mathlib.Core.Path.{_≡_, refl, ap}
+use mathlib.Core.Path.{_≡_, refl, ap, _∙_}
 use mathlib.Core.List.{List}
-use Rattle.rules.specs.Words.{Bytes, num, numAfter}
+use Rattle.rules.specs.Words.{Bytes, num}
 use Rattle.rules.specs.Table.{room, store}
 use Rattle.rules.specs.Capabilities.{Kind, call, register, delete, setEntry, write}
 use Rattle.rules.specs.Messages.{Named, null, unknown, ofKind, named, typeOf, dataOf}
-use Rattle.rules.specs.Answers.{Refusal, ed, ef, e0, ea, aa, eb, e6, e4, x33, e9, e5, x77, e1, e2, e3, x6633, e8, e7, refusals, codeNumber, codeBytes, Answer, refused, fields, Result, Check, judge, Outcome, outcome}
+use Rattle.rules.specs.Answers.{Refusal, aa, refusals, codeNumber, codeBytes, Answer, refused, fields, Result, Check, judge, Outcome, outcome}
 use Rattle.rules.specs.Calls.{setUp, turn, look, systemCall, doKind, doNamed, doCall, doRegister, doDelete, doSetEntry, doWrite}
 use Rattle.rules.specs.Demands.{AnyCall, settingUp, turning, looking, calling, perform, Demand1, Demand2, Demand3}
 use Rattle.rules.specs.Source.{OwnPayload}
+use Rattle.rules.proofs.Source.{code-bytes-back}
 use Rattle.laws.proofs.Rows.{judge-cases}
 use Rattle.demands.proofs.Demand1.{demand-1}
 use Rattle.demands.proofs.Demand2.{own-payload, set-up-payload, turn-payload, look-payload}
@@ -17,29 +18,12 @@ use Rattle.demands.proofs.Demand3.{demand-3}
 use Rattle.kept.specs.Demanded.{refusalAmong, messageOf}
 use Rattle.replies.specs.Exports.{exported, Exports}
 use Rattle.kept.specs.Exported.{StructGiven, ExportedFunctions, KeepExports, successOfType, successTo, answerTo, readStruct, exportedKernel}
+use Rattle.kept.proofs.Demanded.{refusal-back}
 use Rattle.kept.proofs.ReadBack.{read-back}
 
 -- a code is found by its bytes
-refusal-back : (c : Refusal) → refusalAmong refusals (num (codeBytes (codeNumber c))) ≡ c
-unfolding refusalAmong num numAfter codeNumber codeBytes
-refusal-back ed = refl
-refusal-back ef = refl
-refusal-back e0 = refl
-refusal-back ea = refl
-refusal-back aa = refl
-refusal-back eb = refl
-refusal-back e6 = refl
-refusal-back e4 = refl
-refusal-back x33 = refl
-refusal-back e9 = refl
-refusal-back e5 = refl
-refusal-back x77 = refl
-refusal-back e1 = refl
-refusal-back e2 = refl
-refusal-back e3 = refl
-refusal-back x6633 = refl
-refusal-back e8 = refl
-refusal-back e7 = refl
+found-by-bytes : (c : Refusal) → refusalAmong refusals (num (codeBytes (codeNumber c))) ≡ c
+found-by-bytes c = ap (refusalAmong refusals) (code-bytes-back (codeNumber c)) ∙ refusal-back c
 
 -- the answer to a call is known by its fields
 Known : AnyCall → Answer → Type 0
@@ -47,7 +31,7 @@ Known c a = answerTo c (fields a) ≡ a
 
 refused-known : (c : AnyCall) (code : Refusal) → Known c (refused code)
 unfolding Known answerTo fields
-refused-known c code = ap refused (refusal-back code)
+refused-known c code = ap refused (found-by-bytes code)
 
 -- so of a row of checks its result decides
 row-known : (c : AnyCall) (t : Bytes) (cs : List Check) (r : Result) → Known c (outcome t r .answer) → Known c (outcome t (judge cs r) .answer)

@@ -1,15 +1,18 @@
 -- What a host reads of the struct and its own message are document 01's fields: the code's bytes stand before their padding, and
 -- the payload is as long as the rest of the message from its place on. And the promise leaves nothing open.
-use Prim.Native.Nat.{_+_}
+use Prim.Native.Nat.{ℕ, _+_}
 use mathlib.Core.Path.{_≡_, refl, sym, ap, _∙_}
+use mathlib.Core.Bool.{Bool, true, false}
+use borrow.Author.Tests.{ltb-true, ltb-false}
+use lib.Dec.{ltb}
 use lib.ListN.{length, take, drop}
 use lib.Seq.{take-length}
 use Rattle.rules.specs.Words.{Bytes}
 use Rattle.rules.specs.Messages.{payloadAt, dataOf, payloadOf}
-use Rattle.rules.specs.Answers.{Refusal, ed, ef, e0, ea, aa, eb, e6, e4, x33, e9, e5, x77, e1, e2, e3, x6633, e8, e7, codeNumber, codeBytes, Answer, refused, done, called, registered, looked, fields, Outcome}
+use Rattle.rules.specs.Answers.{codeNumber, codeBytes, Answer, refused, done, called, registered, looked, fields, Outcome}
 use Rattle.rules.specs.Calls.{setUp, turn, look, systemCall}
 use Rattle.rules.specs.Source.{OwnPayload}
-use Rattle.rules.proofs.Source.{payload-from}
+use Rattle.rules.proofs.Source.{one-byte, two-bytes, payload-from}
 use Rattle.demands.proofs.Demand2.{own-payload, set-up-payload, turn-payload, look-payload}
 use Rattle.replies.specs.declared.Reply.{Reply}
 use Rattle.replies.specs.Exports.{padded, placeOf, exported, Exports, readBack}
@@ -18,26 +21,13 @@ use Rattle.replies.specs.Exports.{padded, placeOf, exported, Exports, readBack}
 pub exports-one : {o : Outcome} {r r′ : Reply} {t t′ : Bytes} → Exports o r t → Exports o r′ t′ → (r ≡ r′) × (t ≡ t′)
 exports-one e f = (e .reply ∙ sym (f .reply), e .table ∙ sym (f .table))
 
-code-read : (c : Refusal) → take (length (codeBytes (codeNumber c))) (padded (codeBytes (codeNumber c))) ≡ codeBytes (codeNumber c)
-unfolding codeNumber codeBytes padded
-code-read ed = refl
-code-read ef = refl
-code-read e0 = refl
-code-read ea = refl
-code-read aa = refl
-code-read eb = refl
-code-read e6 = refl
-code-read e4 = refl
-code-read x33 = refl
-code-read e9 = refl
-code-read e5 = refl
-code-read x77 = refl
-code-read e1 = refl
-code-read e2 = refl
-code-read e3 = refl
-code-read x6633 = refl
-code-read e8 = refl
-code-read e7 = refl
+code-read : (c : ℕ) → take (length (codeBytes c)) (padded (codeBytes c)) ≡ codeBytes c
+unfolding padded
+code-read c = go (ltb c 256) refl
+  where
+    go : (b : Bool) → ltb c 256 ≡ b → take (length (codeBytes c)) (padded (codeBytes c)) ≡ codeBytes c
+    go true t = rw (one-byte c (ltb-true c 256 t))
+    go false t = rw (two-bytes c (ltb-false c 256 t))
 
 payload-read : (m p : Bytes) → p ≡ payloadOf (dataOf m) → take (length p) (drop (1 + payloadAt) m) ≡ p
 payload-read m p own = ap (take (length p)) (sym (own ∙ payload-from m)) ∙ take-length p
@@ -45,7 +35,7 @@ payload-read m p own = ap (take (length p)) (sym (own ∙ payload-from m)) ∙ t
 -- a struct has the fields of its answer
 pub struct-fields : (m : Bytes) (a : Answer) → OwnPayload m a → readBack m (exported a) ≡ fields a
 unfolding readBack exported fields placeOf padded
-struct-fields m (refused c) own = rw (code-read c)
+struct-fields m (refused c) own = rw (code-read (codeNumber c))
 struct-fields m done own = refl
 struct-fields m (called a p) own = rw (payload-read m p own)
 struct-fields m (registered n) own = refl

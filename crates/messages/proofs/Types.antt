@@ -1,10 +1,9 @@
 -- What a type's number says. A number that names a type has one kind, and what is asked of the kind is asked of the number.
-use Prim.Native.Nat.{ℕ, _+_, _≤_}
+use Prim.Native.Nat.{ℕ, _≤_}
 use native.Mathlib.Omega.{arith}
 use mathlib.Core.Path.{_≡_, refl, sym, ap, _∙_}
 use mathlib.Core.Bool.{true, false, true≢false}
 use mathlib.Core.Option.{Option, none, some}
-use lib.Dec.{ltb, leb}
 use borrow.Author.Tests.{ne-eqb}
 use Rattle.rules.specs.Words.{Bytes}
 use Rattle.rules.specs.Capabilities.{Kind, call, register, delete, setEntry, write, number, kindOf}
@@ -31,10 +30,6 @@ minimum-bounded n = go (kindOf n)
     go (some delete) = omega arith
     go (some setEntry) = omega arith
     go (some write) = omega arith
-
--- at least one byte more is more
-pub one-more : (least bytes : ℕ) → leb (least + 1) bytes ≡ ltb least bytes
-one-more least bytes = ap (λ (x : ℕ). leb x bytes) (omega arith)
 
 open-ended-number : (kind : Kind) → openEndedOf (number kind) ≡ openEnded kind
 unfolding openEndedOf

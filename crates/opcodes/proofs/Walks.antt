@@ -2,7 +2,7 @@
 -- and what it finds there is the opcode at i and the walk behind its data.
 use Prim.Native.Nat.{ℕ, zero, suc, _+_, _-_, _≤_, _<_}
 use native.Mathlib.Omega.{arith}
-use mathlib.Core.Path.{_≡_, refl, sym, ap, _∙_}
+use mathlib.Core.Path.{_≡_, refl, sym, ap, subst, _∙_}
 use mathlib.Core.List.{[], _∷_}
 use mathlib.Core.Bool.{Bool, true, false, _&&_}
 use borrow.Author.Tests.{le-leb, lt-leb, leb-true}
@@ -60,43 +60,38 @@ walk-at mask code i h =
     ∙ walk-opcode mask k (drop (suc i) code)
     ∙ ap (λ x. allowed mask k && walk mask 0 x) (drop-drop (dataBytes k) (suc i) code ∙ ap (λ n. drop n code) next)
 
--- The opcodes walked before index i are allowed: what is left from i on decides.
-pub record Walked (mask code : Bytes) (i : ℕ) : Type 0 where
-  pub short : length code ≤ greatestCode
-  pub left : walk mask 0 code ≡ walk mask 0 (drop i code)
-
-pub walked-none : {mask code : Bytes} → length code ≤ greatestCode → Walked mask code 0
-walked-none h = record { short = h; left = refl }
-
--- the walk goes on where it is told that the same is left
-pub walked-on : {mask code : Bytes} {i at : ℕ} → Walked mask code i → walk mask 0 (drop i code) ≡ walk mask 0 (drop at code) → Walked mask code at
-walked-on w e = record { short = w .short; left = w .left ∙ e }
-
-pub walked-more : {mask code : Bytes} {i n : ℕ} → Walked mask code i → i < length code → true ≡ allowed mask (getD code i 0) → n ≡ dataBytes (getD code i 0)
-    → Walked mask code (i + 1 + n)
-walked-more {mask} {code} {i} w h a n = record { short = w .short; left = w .left ∙ walk-at mask code i h ∙ rw (n, ← a) }
-
-pub walked-stop : {mask code : Bytes} {i : ℕ} → Walked mask code i → i < length code → false ≡ allowed mask (getD code i 0) → false ≡ walk mask 0 code
-walked-stop {mask} {code} {i} w h a = sym (w .left ∙ walk-at mask code i h ∙ rw (← a))
-
-pub walked-all : {mask code : Bytes} {i : ℕ} → Walked mask code i → length code ≤ i → true ≡ walk mask 0 code
-unfolding walk
-walked-all {mask} {code} {i} w h = sym (w .left ∙ rw (drop-of-length-le code h))
-
--- Allowed opcodes that push nothing, from a walked one on: what is left behind them decides.
-pub record Plain (mask code : Bytes) (from i : ℕ) : Type 0 where
+-- The opcodes walked from one index to before another are allowed: what is left from the other on decides.
+pub record Walked (mask code : Bytes) (from i : ℕ) : Type 0 where
   pub short : length code ≤ greatestCode
   pub onward : from ≤ i
   pub left : walk mask 0 (drop from code) ≡ walk mask 0 (drop i code)
 
-pub plain-none : {mask code : Bytes} {from : ℕ} → length code ≤ greatestCode → Plain mask code from from
-plain-none h = record { short = h; onward = omega arith; left = refl }
+pub walked-none : {mask code : Bytes} {from : ℕ} → length code ≤ greatestCode → Walked mask code from from
+walked-none h = record { short = h; onward = omega arith; left = refl }
 
-pub plain-more : {mask code : Bytes} {from i : ℕ} → Plain mask code from i → i < length code → true ≡ allowed mask (getD code i 0)
-    → 0 ≡ dataBytes (getD code i 0) → Plain mask code from (i + 1)
-plain-more {mask} {code} {from} {i} p h a none =
+-- the walk goes on where it is told that the same is left
+pub walked-on : {mask code : Bytes} {from i at : ℕ} → Walked mask code from i → i ≤ at → walk mask 0 (drop i code) ≡ walk mask 0 (drop at code)
+    → Walked mask code from at
+walked-on w h e = record { short = w .short; onward = omega (arith, w .onward); left = w .left ∙ e }
+
+pub walked-more : {mask code : Bytes} {from i n : ℕ} → Walked mask code from i → i < length code → true ≡ allowed mask (getD code i 0)
+    → n ≡ dataBytes (getD code i 0) → Walked mask code from (i + 1 + n)
+walked-more {mask} {code} {from} {i} w h a n = walked-on w (omega arith) (walk-at mask code i h ∙ rw (n, ← a))
+
+-- an opcode that pushes nothing is followed by the next
+pub walked-plain : {mask code : Bytes} {from i : ℕ} → Walked mask code from i → i < length code → true ≡ allowed mask (getD code i 0)
+    → 0 ≡ dataBytes (getD code i 0) → Walked mask code from (i + 1)
+walked-plain {mask} {code} {from} {i} w h a none =
     let next : i + 1 + 0 ≡ i + 1 = omega arith in
-    record { short = p .short; onward = omega (arith, p .onward); left = p .left ∙ walk-at mask code i h ∙ rw (← a, ← none, next) }
+    subst (Walked mask code from) next (walked-more w h a none)
+
+-- a walk from the code's first opcode
+pub walked-stop : {mask code : Bytes} {i : ℕ} → Walked mask code 0 i → i < length code → false ≡ allowed mask (getD code i 0) → false ≡ walk mask 0 code
+walked-stop {mask} {code} {i} w h a = sym (w .left ∙ walk-at mask code i h ∙ rw (← a))
+
+pub walked-all : {mask code : Bytes} {i : ℕ} → Walked mask code 0 i → length code ≤ i → true ≡ walk mask 0 code
+unfolding walk
+walked-all {mask} {code} {i} w h = sym (w .left ∙ rw (drop-of-length-le code h))
 
 -- the tests of the length, which come before the walk
 module _ (mask code : Bytes) where

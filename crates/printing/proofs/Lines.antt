@@ -3,12 +3,12 @@ use Prim.Native.Nat.{ℕ, _+_, _*_, _/_, _%_, _≤_, _<_}
 use native.Mathlib.Omega.{arith}
 use mathlib.Core.Path.{_≡_, refl}
 use mathlib.Core.List.{[], _∷_}
-use borrow.Author.Tests.{lt-ltb, le-ltb}
 use lib.ListN.{length}
 use Rattle.rules.specs.Words.{Bytes}
 use Rattle.rules.specs.Answers.{codeBytes, Answer, refused, done, called, registered, looked}
 use Rattle.rules.specs.Program.{space, hex, decimal, spaced, printed}
 use Rattle.rules.specs.Source.{replyOf, refusedReply}
+use Rattle.rules.proofs.Source.{one-byte, two-bytes}
 use Rattle.writing.specs.Wrote.{Wrote}
 use Rattle.writing.proofs.Texts.{wrote-both, hex-length}
 use Rattle.decimals.proofs.Decimals.{decimal-fits}
@@ -24,15 +24,6 @@ pub spaced-some : (bs : Bytes) → (length bs ≡ 0 → ⊥) → spaced bs ≡ s
 unfolding spaced
 spaced-some [] h = absurd (h refl)
 spaced-some (b ∷ bs) h = refl
-
--- a code's bytes
-one-byte : (n : ℕ) → n < 256 → codeBytes n ≡ n ∷ []
-unfolding codeBytes
-one-byte n h = let e = lt-ltb n 256 h in rw (e, codeBytes)
-
-two-bytes : (n : ℕ) → 256 ≤ n → codeBytes n ≡ n / 256 ∷ n % 256 ∷ []
-unfolding codeBytes
-two-bytes n h = let e = le-ltb n 256 h in rw (e, codeBytes)
 
 -- each field, with the most characters that it has
 module _ {o o′ o″ : Bytes} {at middle end : ℕ} (w : Wrote o at (space ∷ []) middle o′) where

@@ -3,17 +3,9 @@ use Prim.Native.Nat.{ℕ, _/_, _%_, _≤_, _<_}
 use mathlib.Core.Path.{_≡_}
 use mathlib.Core.List.{[], _∷_}
 use lib.ListN.{length}
-use borrow.Author.Tests.{lt-ltb, le-ltb}
 use Rattle.rules.specs.Answers.{codeBytes}
+use Rattle.rules.proofs.Source.{one-byte, two-bytes}
 use Rattle.replies.specs.Exports.{padded}
-
-one-byte : (c : ℕ) → c < 256 → codeBytes c ≡ c ∷ []
-unfolding codeBytes
-one-byte c h = rw (lt-ltb c 256 h, codeBytes)
-
-two-bytes : (c : ℕ) → 256 ≤ c → codeBytes c ≡ c / 256 ∷ c % 256 ∷ []
-unfolding codeBytes
-two-bytes c h = rw (le-ltb c 256 h, codeBytes)
 
 pub one-long : (c : ℕ) → c < 256 → 1 ≡ length (codeBytes c)
 one-long c h = rw (one-byte c h)

@@ -11,8 +11,8 @@ use native.Mathlib.Omega.{arith}
 use lib.Dec.{eqb, ltb, leb}
 use lib.ListN.{drop, getD}
 use lib.Seq.{drop-drop}
-use borrow.Author.Tests.{ltb-true, ltb-false, ne-eqb, le-leb, lt-leb}
-use Rattle.rules.specs.Words.{Bytes}
+use borrow.Author.Tests.{ltb-true, ltb-false, lt-ltb, le-ltb, ne-eqb, le-leb, lt-leb}
+use Rattle.rules.specs.Words.{Bytes, num, numAfter}
 use Rattle.rules.specs.Capabilities.{Kind, call, register, delete, setEntry, write, kinds, number, kindAmong, kindOf, wordCount, greatestWords}
 use Rattle.rules.specs.Messages.{payloadAt, openEnded, dataOf, payloadOf}
 use Rattle.rules.specs.Answers.{codeBytes, Answer, refused, done, called, registered, looked, fields}
@@ -50,31 +50,31 @@ pub names-none : (n : ℕ) → 8 ≤ n → kindOf n ≡ none
 unfolding kindOf
 names-none n h = none-among kinds n h
 
+-- two tests of a number agree if they have the same values below 8 and agree from there on
+same-test : (f g : ℕ → Bool) → values f 8 ≡ values g 8 → ((n : ℕ) → 8 ≤ n → f n ≡ g n) → (n : ℕ) → f n ≡ g n
+same-test f g below from8 n = go (ltb n 8) refl
+  where
+    go : (b : Bool) → ltb n 8 ≡ b → f n ≡ g n
+    go true e =
+        let h : n < 8 = ltb-true n 8 e in
+        sym (value-at f false 8 n h) ∙ ap (λ vs. getD vs n false) below ∙ value-at g false 8 n h
+    go false e = from8 n (ltb-false n 8 e)
+
 -- the numbers that name a type are 3 to 7
 pub is-kind : (n : ℕ) → isKind n ≡ leb 3 n && leb n 7
 unfolding isKind kindOf kindAmong number
-is-kind n = go (ltb n 8) refl
+is-kind = same-test isKind (λ k. leb 3 k && leb k 7) refl from8
   where
-    go : (b : Bool) → ltb n 8 ≡ b → isKind n ≡ leb 3 n && leb n 7
-    go true e =
-        let h : n < 8 = ltb-true n 8 e in
-        sym (value-at isKind false 8 n h) ∙ value-at (λ k. leb 3 k && leb k 7) false 8 n h
-    go false e =
-        let h : 8 ≤ n = ltb-false n 8 e in
-        rw (names-none n h, isKind) (simp (le-leb 3 n (omega arith), lt-leb n 7 (omega arith)))
+    from8 : (n : ℕ) → 8 ≤ n → isKind n ≡ leb 3 n && leb n 7
+    from8 n h = rw (names-none n h, isKind) (simp (le-leb 3 n (omega arith), lt-leb n 7 (omega arith)))
 
 -- the types that are open-ended are 3 and 4
 pub is-open-ended : (n : ℕ) → openEndedOf n ≡ eqb n 3 || eqb n 4
 unfolding openEndedOf openEnded kindOf kindAmong number
-is-open-ended n = go (ltb n 8) refl
+is-open-ended = same-test openEndedOf (λ k. eqb k 3 || eqb k 4) refl from8
   where
-    go : (b : Bool) → ltb n 8 ≡ b → openEndedOf n ≡ eqb n 3 || eqb n 4
-    go true e =
-        let h : n < 8 = ltb-true n 8 e in
-        sym (value-at openEndedOf false 8 n h) ∙ value-at (λ k. eqb k 3 || eqb k 4) false 8 n h
-    go false e =
-        let h : 8 ≤ n = ltb-false n 8 e in
-        rw (names-none n h, openEndedOf) (simp (ne-eqb n 3 (λ q. omega arith), ne-eqb n 4 (λ q. omega arith)))
+    from8 : (n : ℕ) → 8 ≤ n → openEndedOf n ≡ eqb n 3 || eqb n 4
+    from8 n h = rw (names-none n h, openEndedOf) (simp (ne-eqb n 3 (λ q. omega arith), ne-eqb n 4 (λ q. omega arith)))
 
 -- no capability has more words than the most
 pub words-bounded : (n : ℕ) → wordsOf n ≤ greatestWords
@@ -127,23 +127,27 @@ reply-fields m (looked v) h = refl
 pub one-reply : {r r′ : Reply} (a : Answer) → r ≡ replyOf a → r′ ≡ replyOf a → r ≡ r′
 one-reply a e e′ = e ∙ sym e′
 
-one-byte : (c : ℕ) → ltb c 256 ≡ true → codeBytes c ≡ c ∷ []
+-- a code below 256 has one byte, any other has two
+pub one-byte : (c : ℕ) → c < 256 → codeBytes c ≡ c ∷ []
 unfolding codeBytes
-one-byte c t = rw (t, codeBytes)
+one-byte c h = rw (lt-ltb c 256 h, codeBytes)
 
-two-bytes : (c : ℕ) → ltb c 256 ≡ false → codeBytes c ≡ c / 256 ∷ c % 256 ∷ []
+pub two-bytes : (c : ℕ) → 256 ≤ c → codeBytes c ≡ c / 256 ∷ c % 256 ∷ []
 unfolding codeBytes
-two-bytes c t = rw (t, codeBytes)
+two-bytes c h = rw (le-ltb c 256 h, codeBytes)
 
--- code bytes tell codes apart
-pub code-bytes-apart : (c c′ : ℕ) → codeBytes c ≡ codeBytes c′ → c ≡ c′
-code-bytes-apart c c′ e = go (ltb c 256) (ltb c′ 256) refl refl
+-- the code's bytes, read as one number, are the code
+pub code-bytes-back : (c : ℕ) → num (codeBytes c) ≡ c
+unfolding num numAfter
+code-bytes-back c = go (ltb c 256) refl
   where
-    go : (b b′ : Bool) → ltb c 256 ≡ b → ltb c′ 256 ≡ b′ → c ≡ c′
-    go true true t t′ = cc (one-byte c t, one-byte c′ t′)
-    go true false t t′ = cc (one-byte c t, two-bytes c′ t′)
-    go false true t t′ = cc (two-bytes c t, one-byte c′ t′)
-    go false false t t′ = cc (two-bytes c t, two-bytes c′ t′, div-add-mod' c 256, div-add-mod' c′ 256)
+    go : (b : Bool) → ltb c 256 ≡ b → num (codeBytes c) ≡ c
+    go true t = rw (one-byte c (ltb-true c 256 t)) (omega arith)
+    go false t = rw (two-bytes c (ltb-false c 256 t)) (omega (arith, div-add-mod' c 256))
+
+-- so they tell codes apart
+pub code-bytes-apart : (c c′ : ℕ) → codeBytes c ≡ codeBytes c′ → c ≡ c′
+code-bytes-apart c c′ e = sym (code-bytes-back c) ∙ ap num e ∙ code-bytes-back c′
 
 refused-only : (case : Case) (address value m : Bytes) (c : ℕ) → fieldsWith case address value m ≡ fieldsOf (refusedReply c) m
     → record { answer = case; address = address; value = value } ≡ refusedReply c

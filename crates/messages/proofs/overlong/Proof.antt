@@ -1,13 +1,19 @@
--- An open-ended type has no overlong data; of any other the length is compared with the type's own minimum.
-use mathlib.Core.Path.{sym, _∙_}
+-- An open-ended type has no overlong data. Of any other the data has at least one byte more than the type's own minimum, which is to say
+-- that it has more; no minimum is so great that the sum could wrap.
+use Prim.Native.Nat.{ℕ, _+_}
+use mathlib.Core.Path.{_≡_, sym, ap, _∙_}
 use native.Mathlib.Omega.{arith}
+use lib.Dec.{ltb, leb}
 use lib.ListN.{length}
 use borrow.Author.Needs.{needs}
 use Rattle.rules.specs.Source.{minimumOf}
 use Rattle.messages.specs.Messages.{overlongOf}
-use Rattle.messages.proofs.Types.{minimum-bounded, one-more}
+use Rattle.messages.proofs.Types.{minimum-bounded}
 use Rattle.messages.proofs.overlong.Statement.{statement}
 use Rattle.messages.proofs.overlong.Tie as tie
+
+one-more : (least bytes : ℕ) → leb (least + 1) bytes ≡ ltb least bytes
+one-more least bytes = ap (λ (x : ℕ). leb x bytes) (omega arith)
 
 open-ended-requires : tie.Need-open-ended-requires
 open-ended-requires c κs = search needs

@@ -12,7 +12,7 @@ use Rattle.opcodes.proofs.walk.Statement.{statement}
 use Rattle.opcodes.proofs.walk.Tie as tie
 
 abbrev Inv-loop : tie.InvT-loop
-Inv-loop mask code i₀ i = Walked mask code i
+Inv-loop mask code i₀ i = Walked mask code 0 i
 
 abbrev μ-loop : tie.MeasureT-loop
 μ-loop mask code i₀ i = length code - i
@@ -26,7 +26,7 @@ plain-end-requires c κs = search needs
 returns : tie.Need-returns Inv-loop μ-loop
 returns c =
     let plain-end = c .before in
-    walked-all (walked-on (plain-end .before .before .loop .inv) (plain-end .plain-end .ensures .1)) (c .if1 .taken)
+    walked-all (walked-on (plain-end .before .before .loop .inv) (plain-end .plain-end .ensures .0) (plain-end .plain-end .ensures .1)) (c .if1 .taken)
 
 shared-slice-read-opcode : tie.Need-shared-slice-read-opcode Inv-loop μ-loop
 shared-slice-read-opcode c = search needs
@@ -38,7 +38,7 @@ returns-2 : tie.Need-returns-2 Inv-loop μ-loop
 returns-2 c =
     let if1 = c .before .before .before in
     let plain-end = if1 .before in
-    walked-stop (walked-on (plain-end .before .before .loop .inv) (plain-end .plain-end .ensures .1)) (if1 .if1 .left)
+    walked-stop (walked-on (plain-end .before .before .loop .inv) (plain-end .plain-end .ensures .0) (plain-end .plain-end .ensures .1)) (if1 .if1 .left)
     (sym (not-true _ (c .if2 .taken)) ∙ c .before .allowed .ensures)
 
 add-i : tie.Need-add-i Inv-loop μ-loop
@@ -58,7 +58,7 @@ loop-again c =
     let if2 = c .before in
     let if1 = if2 .before .before .before in
     let plain-end = if1 .before in
-    walked-more (walked-on (plain-end .before .before .loop .inv) (plain-end .plain-end .ensures .1)) (if1 .if1 .left)
+    walked-more (walked-on (plain-end .before .before .loop .inv) (plain-end .plain-end .ensures .0) (plain-end .plain-end .ensures .1)) (if1 .if1 .left)
     (sym (not-false _ (if2 .if2 .left)) ∙ if2 .before .allowed .ensures) (c .data-bytes .ensures)
 
 returns-3 : tie.Need-returns-3 Inv-loop μ-loop
