@@ -80,7 +80,7 @@ struct beaker_reply beaker_look(const uint8_t *table, size_t table_len, const ui
  * 1 + the number of words that follow the two, and its type. These follow:
  *
  *   3 Call, 4 Register, 5 Delete   one word: the keys that share their first bits (byte 0: how many,
- *                                  at most 24) with the key in bytes 8 to 31
+ *                                  at most 192, the whole key) with the key in bytes 8 to 31
  *   6 Set Entry                    nothing
  *   7 Write                        two words: base, the first address, and additional, how many
  *                                  more follow it

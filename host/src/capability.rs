@@ -51,14 +51,32 @@ pub struct Prefix {
 }
 
 impl Prefix {
-    /// The longest prefix that the kernel takes, in bits.
-    pub const GREATEST: u8 = 24;
+    /// The longest prefix that the kernel takes, in bits: all those of a key.
+    pub const GREATEST: u8 = 192;
 
     /// Every key: no bit has to be the same.
     pub const EVERY_KEY: Prefix = Prefix {
         bits: 0,
         base: Key::ZERO,
     };
+
+    /// One key alone: every bit has to be the same. So a ward can be given the right to close one
+    /// referral, and no other.
+    ///
+    /// ```
+    /// use beaker::{Capability, Key, Prefix};
+    ///
+    /// let referral = Key::starting_with(&[0xa0, 0x17]);
+    /// let may_close_it = Capability::Delete(Prefix::one_key(referral));
+    /// # assert_eq!(Prefix::one_key(referral), Prefix::new(Prefix::GREATEST, referral)?);
+    /// # Ok::<(), beaker::PrefixTooLong>(())
+    /// ```
+    pub const fn one_key(key: Key) -> Prefix {
+        Prefix {
+            bits: Prefix::GREATEST,
+            base: key,
+        }
+    }
 
     /// The keys whose first bits, most significant first, are those of the base. The kernel refuses
     /// a message with a longer prefix than [`GREATEST`](Prefix::GREATEST) (66 e5), so none is made

@@ -88,9 +88,8 @@ mod messages {
 
     #[test]
     fn capabilities_follow_as_size_type_words() {
-        let keys = Prefix::new(24, key()).unwrap();
         let requested = [
-            Capability::Call(keys),
+            Capability::Call(Prefix::one_key(key())),
             Capability::Register(Prefix::new(9, key()).unwrap()),
             Capability::Delete(Prefix::EVERY_KEY),
             Capability::SetEntry,
@@ -102,7 +101,7 @@ mod messages {
         let series = [
             small(2),
             small(3),
-            format!("1800000000000000{KEY}"),
+            format!("c000000000000000{KEY}"),
             small(2),
             small(4),
             format!("0900000000000000{KEY}"),
@@ -524,6 +523,28 @@ mod calls {
             assert_eq!(answer, Err(Refusal::Overlong));
         }
         assert_eq!(table.as_bytes(), fresh().as_bytes());
+    }
+
+    /// A ward may close referral 3. Its own key, 2, differs from that in the last bit alone; the
+    /// first procedure's, 1, in the bit before it.
+    #[test]
+    fn a_right_to_one_key_closes_that_referral_alone() {
+        let (first, ward, referral) = (Key::from(1), Key::from(2), Key::from(3));
+        let may_close_it = [Capability::Delete(Prefix::one_key(referral))];
+        let (mut table, mask) = (fresh(), whitelist_mask());
+        for (key, rights) in [(ward, &may_close_it[..]), (referral, &[])] {
+            let sent = message::register(0, key, address(), rights);
+            table.call(&sent, &[0], &mask).unwrap();
+        }
+        table.turn(ward).unwrap();
+        let answers = [
+            (first, Err(Refusal::NotCovered)),
+            (ward, Err(Refusal::NotCovered)),
+            (referral, Ok(Answer::Done)),
+        ];
+        for (key, answer) in answers {
+            assert_eq!(table.call(&message::delete(0, key), &[], &mask), answer);
+        }
     }
 
     #[test]

@@ -1,5 +1,5 @@
-//! 1,450 calls, whose answers come from a reading of document 01, with what 02 has changed, that
-//! shares nothing with the archive and the independent implementation: both must give them.
+//! 1,722 calls, whose answers come from readings of document 01, with what 02 has changed, that
+//! share nothing with the archive and the independent implementation: both must give them.
 //!
 //! `vectors/calls.txt` carries one table from line to line; it is empty at first. A line is a name
 //! and its fields in lower-case hex, each after one space; a field of no bytes is `-`:
@@ -80,7 +80,7 @@ fn compare(make: impl Fn(&str, &mut [u8], &[Vec<u8>]) -> Answer) {
         }
     }
     assert_eq!(answers.next(), None);
-    assert_eq!(calls, 1_450);
+    assert_eq!(calls, 1_722);
 }
 
 /// A line's name and its fields.

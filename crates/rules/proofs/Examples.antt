@@ -9,9 +9,14 @@ use borrow.Author.Tests.{eq-eqb}
 use lib.Dec.{lit<}
 use Rattle.rules.specs.Words.{keyBytes, Bytes}
 use Rattle.rules.specs.Capabilities.{wordOf, prefix, base, firstBits, coversKey, covers}
-use Rattle.rules.specs.Answers.{codeNumber, codeBytes, fields, Refusal, aa, eb, e6, ef, x33, e1, e5, e7, e9, refuse, outcome}
-use Rattle.rules.specs.Examples.{AllTrue, P1, P2, P3, P4, P5, P6, P7, P8, P9, P10, P11, cases, Refuses, SetUpHas13Records, SetUpNeedsItsBytes, WriteSparesKernelStorage, RegisterReportsTests, RequestsAreTestedFirst, CodeIsJudgedBeforeSeries, KeyStandsOnce, KeyIsRegisteredOnce, Types8And9AreUnknown, DataEndsWithItsFormat, OverlongIsJudgedBeforeKeys, CallAndRegisterStayOpenEnded, computed}
+use Rattle.rules.specs.Answers.{codeNumber, codeBytes, fields, Refusal, aa, eb, e6, ef, x33, e1, e3, e5, e7, e9, refuse, outcome}
+use Rattle.rules.specs.Examples.{AllTrue, P1, P2, P3, P4, P5, P6, P7, P8, P9, P10, P11, cases, Refuses, SetUpHas13Records, SetUpNeedsItsBytes, WriteSparesKernelStorage, RegisterReportsTests, RequestsAreTestedFirst, CodeIsJudgedBeforeSeries, KeyStandsOnce, KeyIsRegisteredOnce, Types8And9AreUnknown, DataEndsWithItsFormat, OverlongIsJudgedBeforeKeys, CallAndRegisterStayOpenEnded, PrefixReachesTheLastBit, PrefixesEndAt192, WardClosesOneReferral, computed}
 use Rattle.rules.proofs.Computing.{computing}
+
+-- the proof of a list's first statement, then those of the others
+infixr 20 _and_
+_and_ : {A B : Type 0} → A → B → A × B
+a and more = (a, more)
 
 no-prefix-covers-every-key : (w key : ℕ) → w < 256 ^ 31 → key < 256 ^ keyBytes → coversKey (w ∷ []) key ≡ true
 unfolding wordOf prefix base firstBits coversKey
@@ -68,7 +73,7 @@ p11 = (refl, refl, refl, refl, refl, refl)
 
 pub P1-to-P11 : AllTrue cases
 unfolding cases
-P1-to-P11 = (p1, (p2, (p3, (p4, (p5, (p6, (p7, (p8, (p9, (p10, (p11, tt)))))))))))
+P1-to-P11 = p1 and p2 and p3 and p4 and p5 and p6 and p7 and p8 and p9 and p10 and p11 and tt
 
 -- what a row of checks comes to that refuses; that a row does is computed
 refuses : (t : Bytes) (code : Refusal) → Refuses (codeBytes (codeNumber code)) t (outcome t (refuse code))
@@ -123,33 +128,43 @@ call-and-register-stay-open-ended : CallAndRegisterStayOpenEnded
 unfolding computing
 call-and-register-stay-open-ended = (refl, refuses _ e5)
 
+prefix-reaches-the-last-bit : PrefixReachesTheLastBit
+unfolding computing
+prefix-reaches-the-last-bit = (
+  (refl, (refl, (refl, tt))),
+  (refl, (refl, (refl, tt))),
+  (refl, (refl, (refl, tt))),
+  (refl, (refl, (refl, tt))),
+  (refl, (refl, (refl, tt))),
+  (refl, (refl, (refl, tt))),
+  (refl, (refl, (refl, tt))),
+  (refl, (refl, (refl, tt))),
+)
+
+prefixes-end-at-192 : PrefixesEndAt192
+unfolding computing
+prefixes-end-at-192 = (refl, refl, refuses _ e5, refl, refl, refuses _ ef)
+
+ward-closes-one-referral : WardClosesOneReferral
+unfolding computing
+ward-closes-one-referral = (refl, refl, refuses _ x33, refuses _ x33, refuses _ x33, refuses _ e3)
+
 pub computed-hold : AllTrue computed
 unfolding computed
-computed-hold = (
-  set-up-has-13-records,
-  (
-    set-up-needs-its-bytes,
-    (
-      write-spares-kernel-storage,
-      (
-        register-reports-tests,
-        (
-          requests-are-tested-first,
-          (
-            code-is-judged-before-series,
-            (
-              key-stands-once,
-              (
-                key-is-registered-once,
-                (
-                  types-8-and-9-are-unknown,
-                  (data-ends-with-its-format, (overlong-is-judged-before-keys, (call-and-register-stay-open-ended, tt))),
-                ),
-              ),
-            ),
-          ),
-        ),
-      ),
-    ),
-  ),
-)
+computed-hold =
+    set-up-has-13-records
+    and set-up-needs-its-bytes
+    and write-spares-kernel-storage
+    and register-reports-tests
+    and requests-are-tested-first
+    and code-is-judged-before-series
+    and key-stands-once
+    and key-is-registered-once
+    and types-8-and-9-are-unknown
+    and data-ends-with-its-format
+    and overlong-is-judged-before-keys
+    and call-and-register-stay-open-ended
+    and prefix-reaches-the-last-bit
+    and prefixes-end-at-192
+    and ward-closes-one-referral
+    and tt

@@ -49,9 +49,9 @@ Capability = List ℕ
 unfoldable pub wordOf : Capability → ℕ → ℕ
 wordOf c k = getD c k 0
 
--- "prefix s, 0 to 24 (bits)"
+-- "prefix s, 0 to 24 (bits)", amended by document 02, No. 2: "Prefixes now run from 0 to 192." So a prefix can reach a whole key.
 unfoldable pub greatestPrefix : ℕ
-greatestPrefix = 24
+greatestPrefix = 192
 
 -- "byte 0: prefix s ..; bytes 1 to 7 unread, stored as sent; bytes 8 to 31: base key b"
 unfoldable pub prefix : Capability → ℕ

@@ -1,20 +1,19 @@
 -- Document 01's examples ("Both sides of each rule"), and those of document 02's requests, as statements: P1 to P11 are the list
 -- `cases`, all others the list `computed`. Each list has one claim, that all of it is true: `P1-to-P11` and `computed-hold` of proofs/Examples.
 use Prim.Native.Nat.{ℕ, zero, suc, _+_, _*_, _^_, _-_, _<_}
-use Prim.Native.Char.{code}
 use mathlib.Core.Path.{_≡_}
 use mathlib.Core.List.{List, [], _∷_, _++_}
 use mathlib.Core.Bool.{true, false}
 use lib.ListN.{length, replicate}
 use Rattle.rules.specs.Words.{keyBytes, addressBytes, Bytes, Every, num, bytesOf, word}
-use Rattle.rules.specs.Table.{Store, get, _holds_, puts, bytes, store}
+use Rattle.rules.specs.Table.{Store, get, _holds_, put, puts, bytes, store}
 use Rattle.rules.specs.KernelStorage.{addressSlot, indexSlot, countSlot, wordSlot, lengthSlot, placeSlot, kernelAddressSlot, currentSlot, entrySlot}
 use Rattle.rules.specs.Capabilities.{Kind, call, register, delete, setEntry, write, number, Capability, covers, within, prefixInRange}
 use Rattle.rules.specs.Procedures.{listLength, keyAt, indexOf, current, entryKey}
 use Rattle.rules.specs.Messages.{series, malformed}
 use Rattle.rules.specs.Validation.{passes}
 use Rattle.rules.specs.Answers.{fields, done, called, registered, Outcome}
-use Rattle.rules.specs.Calls.{setUp, systemCall}
+use Rattle.rules.specs.Calls.{setUp, turn, systemCall}
 
 -- every statement of a list is true
 abbrev pub AllTrue : List (Type 0) → Type 0
@@ -29,9 +28,17 @@ EachPrefixType statement = Every statement (call ∷ register ∷ delete ∷ [])
 abbrev pub keyBeginning : (first : Bytes) → (others : ℕ) → ℕ
 keyBeginning first others = num (first ++ replicate (keyBytes - length first) others)
 
--- a prefix capability of s bits, whose base key begins with the bytes b, and is zero after them
+-- the word of a prefix capability of s bits: its first byte is s, its last 24 bytes are the base key
+abbrev pub prefixWord : (s key : ℕ) → ℕ
+prefixWord s key = s * 256 ^ 31 + key
+
+-- a prefix capability of s bits, with this base key
+abbrev pub prefixOfKey : (s key : ℕ) → Capability
+prefixOfKey s key = prefixWord s key ∷ []
+
+-- one whose base key begins with the bytes b, and is zero after them
 abbrev pub prefixCapability : (s : ℕ) → (b : Bytes) → Capability
-prefixCapability s b = (s * 256 ^ 31 + keyBeginning b 0x00) ∷ []
+prefixCapability s b = prefixOfKey s (keyBeginning b 0x00)
 
 -- a Write capability of base a and additional n
 abbrev pub writeCapability : (a n : ℕ) → Capability
@@ -70,7 +77,7 @@ setEntryMessage key = message setEntry (0 ∷ key ∷ [])
 abbrev pub writeMessage : (address value : ℕ) → Bytes
 writeMessage address value = message write (0 ∷ address ∷ value ∷ [])
 
--- three procedure keys
+-- three procedure keys; K2 and K3 differ in their last bit alone, K1 and K3 in the one before it
 abbrev pub K1 : ℕ
 K1 = 1
 
@@ -129,13 +136,13 @@ P2 =
 abbrev pub P3 : Type 0
 P3 = EachPrefixType (λ type. (w key : ℕ) → w < 256 ^ 31 → key < 256 ^ keyBytes → covers type (w ∷ []) key ≡ true)
 
--- "prefix 24 accepted, 25 malformed"
+-- "prefix 24 accepted, 25 malformed", amended by document 02, No. 2: "now 192 and 193"
 abbrev pub P4 : Type 0
 P4 =
-    EachPrefixType (λ type. prefixInRange type (prefixCapability 24 []) ≡ true)
-    × EachPrefixType (λ type. prefixInRange type (prefixCapability 25 []) ≡ false)
-    × EachPrefixType (λ type. malformed (series (wordsInBytes (requested type (prefixCapability 24 [])))) ≡ false)
-    × EachPrefixType (λ type. malformed (series (wordsInBytes (requested type (prefixCapability 25 [])))) ≡ true)
+    EachPrefixType (λ type. prefixInRange type (prefixCapability 192 []) ≡ true)
+    × EachPrefixType (λ type. prefixInRange type (prefixCapability 193 []) ≡ false)
+    × EachPrefixType (λ type. malformed (series (wordsInBytes (requested type (prefixCapability 192 [])))) ≡ false)
+    × EachPrefixType (λ type. malformed (series (wordsInBytes (requested type (prefixCapability 193 [])))) ≡ true)
 
 -- "(8,a0..) lies within (0,0), not the reverse". The reverse differs in its first bits already;
 -- the last line is for the lengths alone: (0,a0..) does not lie within (8,a0..).
@@ -316,6 +323,52 @@ CallAndRegisterStayOpenEnded =
     (sending (setUpTable 832) (withOneMore (callMessage K1)) .answer ≡ called (bytesOf addressBytes 0x11) (0 ∷ []))
     × Refuses (0x66 ∷ 0xe5 ∷ []) (setUpTable 832) (sending (setUpTable 832) (withOneMore (registerMessage K2 [])))
 
+-- A prefix of 191 bits leaves the last bit of the key open, one of 192 bits leaves none. The last three lines are of lying within.
+abbrev pub PrefixReachesTheLastBit : Type 0
+PrefixReachesTheLastBit =
+    EachPrefixType (λ type. covers type (prefixOfKey 191 K3) K3 ≡ true)
+    × EachPrefixType (λ type. covers type (prefixOfKey 191 K3) K2 ≡ true)
+    × EachPrefixType (λ type. covers type (prefixOfKey 191 K3) K1 ≡ false)
+    × EachPrefixType (λ type. covers type (prefixOfKey 192 K3) K3 ≡ true)
+    × EachPrefixType (λ type. covers type (prefixOfKey 192 K3) K2 ≡ false)
+    × EachPrefixType (λ type. within type (prefixOfKey 192 K3) (prefixOfKey 191 K2) ≡ true)
+    × EachPrefixType (λ type. within type (prefixOfKey 192 K3) (prefixOfKey 192 K2) ≡ false)
+    × EachPrefixType (λ type. within type (prefixOfKey 191 K3) (prefixOfKey 192 K3) ≡ false)
+
+-- K1 registers K2, with a right to delete the keys that share the first s bits of K3
+abbrev pub registeringWard : (s : ℕ) → Outcome
+registeringWard s = sending (setUpTable 1344) (registerMessage K2 (requested delete (prefixOfKey s K3)))
+
+-- the table of a set-up, except that K1's capability of this type is for the keys that share the first s bits of K3
+abbrev pub tableWithPrefix : Kind → (s : ℕ) → Bytes
+tableWithPrefix type s = bytes 896 (put (store (setUpTable 832)) (wordSlot K1 (number type) 1 0) (prefixWord s K3))
+
+-- "66 e5 and 66 ef use the new range": 191 and 192 are registered and sound, 193 is malformed and unsound
+abbrev pub PrefixesEndAt192 : Type 0
+PrefixesEndAt192 =
+    (registeringWard 191 .answer ≡ registered 1)
+    × (registeringWard 192 .answer ≡ registered 1)
+    × Refuses (0x66 ∷ 0xe5 ∷ []) (setUpTable 1344) (registeringWard 193)
+    × (sending (tableWithPrefix delete 191) (0x00 ∷ []) .answer ≡ done)
+    × (sending (tableWithPrefix delete 192) (0x00 ∷ []) .answer ≡ done)
+    × Refuses (0x66 ∷ 0xef ∷ []) (tableWithPrefix delete 193) (sending (tableWithPrefix delete 193) (0x00 ∷ []))
+
+-- K1 K2 K3, where K2 has that right and is the current procedure
+abbrev pub wardRunning : (s : ℕ) → Bytes
+wardRunning s = turn (sending (registeringWard s .table) (registerMessage K3 []) .table) (bytesOf keyBytes K2) .table
+
+-- "no ward can hold a right to close one referral": now one can. With 192 bits K2 deletes K3, and neither K1 nor itself, whose key
+-- differs from K3 in the last bit alone. With 191 bits its own key is covered too, and refused only as the current one (66 e3);
+-- K1 is still not covered (33).
+abbrev pub WardClosesOneReferral : Type 0
+WardClosesOneReferral =
+    (sending (wardRunning 192) (deleteMessage K3) .answer ≡ done)
+    × (keysOf (store (sending (wardRunning 192) (deleteMessage K3) .table)) ≡ K1 ∷ K2 ∷ [])
+    × Refuses (0x33 ∷ []) (wardRunning 192) (sending (wardRunning 192) (deleteMessage K1))
+    × Refuses (0x33 ∷ []) (wardRunning 192) (sending (wardRunning 192) (deleteMessage K2))
+    × Refuses (0x33 ∷ []) (wardRunning 191) (sending (wardRunning 191) (deleteMessage K1))
+    × Refuses (0x66 ∷ 0xe3 ∷ []) (wardRunning 191) (sending (wardRunning 191) (deleteMessage K2))
+
 -- the examples of 01 that are not marked P, then those of document 02; what the program prints is in the crate examples
 unfoldable pub computed : List (Type 0)
 computed =
@@ -331,4 +384,7 @@ computed =
     ∷ DataEndsWithItsFormat
     ∷ OverlongIsJudgedBeforeKeys
     ∷ CallAndRegisterStayOpenEnded
+    ∷ PrefixReachesTheLastBit
+    ∷ PrefixesEndAt192
+    ∷ WardClosesOneReferral
     ∷ []

@@ -24,7 +24,7 @@ pub const GREATEST_TABLE: usize = 65536;
 pub const KERNEL_MARK: [u8; 4] = [0xff, 0xff, 0xff, 0xff];
 
 // The bits of the longest prefix.
-pub const GREATEST_PREFIX: usize = 24;
+pub const GREATEST_PREFIX: usize = 192;
 
 // The most capabilities of one type that a procedure holds.
 pub const GREATEST_COUNT: usize = 255;

@@ -11,7 +11,7 @@ pub const WRITE: usize = 7;
 /// The words of a capability, by type.
 pub const WORDS: [usize; 8] = [0, 0, 0, 1, 1, 1, 0, 2];
 
-pub const GREATEST_PREFIX: u64 = 24;
+pub const GREATEST_PREFIX: u64 = 192;
 pub const MOST_OF_A_TYPE: usize = 255;
 
 pub fn is_type(of: usize) -> bool {

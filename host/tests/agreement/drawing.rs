@@ -17,7 +17,9 @@ pub struct Scene {
     slots: Vec<Word>,
 }
 
-const PREFIXES: [u8; 12] = [0, 1, 7, 8, 9, 15, 16, 17, 22, 23, 24, 25];
+const PREFIXES: [u8; 16] = [
+    0, 1, 7, 8, 9, 16, 17, 24, 25, 64, 128, 184, 190, 191, 192, 193,
+];
 
 impl Scene {
     pub fn new(random: &mut Random) -> Scene {
@@ -32,6 +34,7 @@ impl Scene {
         keys.extend([
             small_key(1),
             small_key(2),
+            small_key(3),
             key(&[0xa0, 0x80, 1]),
             key(&[0xa0, 0x80, 0, 1]),
         ]);

@@ -2,7 +2,7 @@
 
 use super::comparison::Call;
 use crate::independent::calls::{self, append};
-use crate::independent::rights::{Capability, Type};
+use crate::independent::rights::{Capability, Type, GREATEST_PREFIX};
 use crate::independent::storage::*;
 use crate::independent::words::{number, right, Word, ZERO};
 
@@ -252,7 +252,7 @@ fn varied_capabilities() -> Vec<Capability> {
 /// How it registers the others.
 fn varied_procedures() -> [Call; 3] {
     let with_two_words = [set_entry(), range(number(5), number(6))];
-    let with_longest_prefix = [prefix(Type::Call, 24, &key(&[0xa0, 0x80, 1]))];
+    let with_longest_prefix = [prefix(Type::Call, GREATEST_PREFIX, &key(&[0xa0, 0x80, 1]))];
     let with_zero_word = [
         prefix(Type::Delete, 0, &key(&[])),
         prefix(Type::Register, 7, &key(&[2])),

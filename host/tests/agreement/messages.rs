@@ -126,9 +126,9 @@ fn malformed_series() {
     let mut comparison = Comparison::new("malformed series");
     let good = [
         set_entry(),
-        prefix(Type::Call, 8, &key(&[0xa0])),
+        prefix(Type::Call, GREATEST_PREFIX, &key(&[0xa0])),
         range(number(1), number(1)),
-        prefix(Type::Register, GREATEST_PREFIX, &key(&[2])),
+        prefix(Type::Register, 24, &key(&[2])),
         prefix(Type::Delete, 0, &key(&[])),
     ];
     let not_held = [prefix(Type::Call, 0, &key(&[]))];
@@ -174,7 +174,7 @@ fn malformed(capability: &Capability) -> Vec<Vec<u8>> {
         .collect();
     bad.extend(types.map(|of| [&number(good_size), &of[..], &words].concat()));
     if capability.of.has_prefix() {
-        for prefix in [GREATEST_PREFIX + 1, 128, 192, 193, 255] {
+        for prefix in [GREATEST_PREFIX + 1, 194, 200, 224, 255] {
             let mut request = request(capability);
             request[64] = prefix;
             bad.push(request);

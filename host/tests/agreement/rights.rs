@@ -3,29 +3,30 @@
 use super::comparison::{Call, Comparison};
 use super::inputs::*;
 use crate::independent::answers::CODE_FAILS;
-use crate::independent::rights::{Capability, Type};
+use crate::independent::rights::{Capability, Type, GREATEST_PREFIX};
 use crate::independent::words::{number, Word, ZERO};
 
 const OF_PREFIX: [Type; 3] = [Type::Call, Type::Register, Type::Delete];
 
-pub const ON_PREFIXES: usize = 6_000;
+pub const ON_PREFIXES: usize = 7_000;
 
-/// Prefixes about whole bytes, with keys that differ in each bit near their ends; and containment,
-/// where the requested prefix is shorter, as long, longer or out of range.
+/// Every prefix, with keys that differ in one bit: the first of a key, the last of the prefix, the
+/// next or the last of a key; and containment, where the requested prefix is shorter, as long,
+/// longer or out of range.
 #[test]
 fn prefixes() {
     let mut comparison = Comparison::new("prefixes");
-    let bits = [0, 1, 7, 8, 9, 15, 16, 17, 23, 24];
-    let base = key(&[0xa5, 0x5a, 0xc3, 0x3c]);
-    for held in bits {
+    let base = [0xa5; 24];
+    for held in 0..=GREATEST_PREFIX {
         let table = holding(20, &OF_PREFIX.map(|of| prefix(of, held, &base)));
-        for bit in (0..34).chain([63, 64, 127, 128, 190, 191]) {
+        let (shorter, longer) = (held.saturating_sub(1), held + 1);
+        for bit in [0, shorter, held.min(191), 191] {
             let mut other = base;
-            other[bit / 8] ^= 0x80 >> (bit % 8);
+            other[usize::from(bit / 8)] ^= 0x80 >> (bit % 8);
             comparison.try_on(&table, &on_key(Type::Call, 0, &other));
             comparison.try_on(&table, &on_key(Type::Delete, 0, &other));
             comparison.try_on(&table, &register(0, &other, &[]));
-            for requested in bits.into_iter().chain([25, 192, 255]) {
+            for requested in [0, shorter, held, longer, 192, 193, 255] {
                 let of = comparison.random.one_of(&OF_PREFIX);
                 let request = prefix(of, requested, &other);
                 comparison.try_on(&table, &register(0, &base, &[request]));

@@ -168,7 +168,7 @@ fn with_many_procedures() -> Vec<u8> {
 /// A full table of few procedures that hold hundreds of capabilities each, some with words of
 /// zero.
 fn with_many_capabilities() -> Vec<u8> {
-    let many = |of, count: u8| (0..count).map(move |n| prefix(of, n % 25, &key(&[n, n])));
+    let many = |of, count: u8| (0..count).map(move |n| prefix(of, n % 193, &key(&[n, n])));
     let ranges = (0..100).map(|n| range(number(n % 7), number(n % 5)));
     let calls: Vec<Capability> = many(Type::Call, 255).collect();
     let mixed = many(Type::Delete, 120)

@@ -3,8 +3,8 @@
 use super::storage::Key;
 use super::words::{sum, Word};
 
-/// The greatest prefix, in bits.
-pub const GREATEST_PREFIX: u8 = 24;
+/// The greatest prefix, in bits: "Prefixes now run from 0 to 192" (02, No. 2).
+pub const GREATEST_PREFIX: u8 = 192;
 
 /// The most capabilities of one type that a procedure holds.
 pub const MOST_OF_A_TYPE: usize = 255;

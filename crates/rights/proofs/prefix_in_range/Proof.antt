@@ -19,7 +19,7 @@ prefix-of-requires c κs = search needs
 
 returns-2 : tie.Need-returns-2
 unfolding greatestPrefix
-returns-2 c = first-prefix (c .before .before .if1 .left) (c .before .word-at .ensures) (ap (λ x. leb x 24) (c .prefix-of .ensures))
+returns-2 c = first-prefix (c .before .before .if1 .left) (c .before .word-at .ensures) (ap (λ x. leb x greatestPrefix) (c .prefix-of .ensures))
 
 pub prefix-in-range-spec : {M : Type 1} → statement M
 prefix-in-range-spec = tie.close (tie.spec returns word-at-requires prefix-of-requires returns-2)
