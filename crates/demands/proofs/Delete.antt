@@ -13,7 +13,7 @@ use Rattle.rules.specs.Sound.{Belongs, index, listLengthHere, place, Sound}
 use Rattle.rules.specs.Calls.{ofProcedure, afterDelete}
 use Rattle.rules.specs.Demands.{Kept}
 use Rattle.laws.proofs.Bools.{decide-false}
-use Rattle.laws.proofs.Lists.{_also_}
+use Rattle.rules.proofs.Lists.{_also_}
 use Rattle.laws.proofs.Stores.{puts-ascending, Misses, get-puts-other, hit-or-miss}
 use Rattle.laws.proofs.Present.{no-longer}
 use Rattle.laws.proofs.Slots.{Fits, slot-inKernelStorage, fixed, one-end}

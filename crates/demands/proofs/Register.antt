@@ -16,8 +16,9 @@ use Rattle.rules.specs.Sound.{IsAddress, Belongs, address, index, listLengthHer
 use Rattle.rules.specs.Messages.{Request, requestedOf}
 use Rattle.rules.specs.Calls.{afterRegister}
 use Rattle.rules.specs.Demands.{Kept}
+use Rattle.rules.proofs.Lists.{_also_}
 use Rattle.laws.proofs.Numbers.{same-or-not}
-use Rattle.laws.proofs.Lists.{every-map, _also_}
+use Rattle.laws.proofs.Lists.{every-map}
 use Rattle.laws.proofs.Stores.{puts-ascending, Misses, get-puts-other, hit-or-miss}
 use Rattle.laws.proofs.Rows.{member}
 use Rattle.laws.proofs.Records.{Stored, puts-stored}

@@ -10,12 +10,12 @@ use lib.ListN.{length}
 use Rattle.rules.specs.Words.{Every}
 use Rattle.rules.specs.Table.{Store, Record, _holds_, get, Ascending, Sized}
 use Rattle.rules.specs.KernelStorage.{slot, lengthSlot, kernelAddressSlot, currentSlot, entrySlot}
-use Rattle.rules.specs.Capabilities.{Kind, call, register, delete, setEntry, write, number, wordCount, Capability, wordOf, prefix, greatestPrefix, prefixInRange}
+use Rattle.rules.specs.Capabilities.{Kind, call, register, delete, setEntry, write, number, wordCount, Capability, wordOf, prefix, greatestPrefix, prefixUpTo, prefixInRange}
 use Rattle.rules.specs.Procedures.{listLength, kernelAddress, current, entryKey, InList}
 use Rattle.rules.specs.Sound.{IsKey, IsAddress, Belongs, kernelAddressHere, currentHere, entryHere, Sound}
 use Rattle.rules.specs.Messages.{sameKind, requestedOf}
 use Rattle.rules.specs.Calls.{firstCapabilities, fixedRecords, fresh}
-use Rattle.laws.proofs.Lists.{_also_}
+use Rattle.rules.proofs.Lists.{_also_}
 use Rattle.laws.proofs.Stores.{get-none, puts-ascending, Misses, get-puts-other, hit-or-miss}
 use Rattle.laws.proofs.Rows.{member}
 use Rattle.laws.proofs.Records.{Stored, puts-stored, Rising, rising-misses, rising-apart}
@@ -37,7 +37,7 @@ one-capability kind c long prefixFits words =
     record { few = omega arith; proper = (record { words = long; prefixFits = prefixFits }, tt); words = (words, tt) }
 
 first : (kind : Kind) → First kind (requestedOf kind firstCapabilities)
-unfolding requestedOf firstCapabilities sameKind number wordCount prefixInRange prefix wordOf greatestPrefix
+unfolding requestedOf firstCapabilities sameKind number wordCount prefixUpTo prefix wordOf greatestPrefix
 first call = one-capability call (0 ∷ []) refl refl (lit< tt, tt)
 first register = one-capability register (0 ∷ []) refl refl (lit< tt, tt)
 first delete = one-capability delete (0 ∷ []) refl refl (lit< tt, tt)

@@ -16,7 +16,8 @@ use Rattle.rules.specs.Capabilities.{Kind, kinds, number, Capability}
 use Rattle.rules.specs.Procedures.{listLength, keyAt}
 use Rattle.rules.specs.Messages.{Request, requestedOf}
 use Rattle.rules.specs.Calls.{ofProcedure, withoutProcedure, afterDelete, wordRecords, capabilityRecords, kindRecords, afterRegister}
-use Rattle.laws.proofs.Lists.{every-append, _also_}
+use Rattle.rules.proofs.Lists.{_also_}
+use Rattle.laws.proofs.Lists.{every-append}
 use Rattle.laws.proofs.Slots.{Fits, slot-inKernelStorage, fixed, inProcedure, zero-end, one-end, ending-fits}
 use Rattle.laws.proofs.KindFacts.{number-small, wordCount-small}
 use Rattle.laws.proofs.Places.{place-fits}

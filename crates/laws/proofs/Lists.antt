@@ -98,8 +98,3 @@ pub any-every : {A P : Type 0} (f : A → Bool) (xs : List A) → Every (λ x. f
 unfolding anyOf
 any-every f [] h q = absurd (true≢false (sym q))
 any-every f (x ∷ xs) h q = (h .0 or any-every f xs (h .1)) (sym (if-or (f x) (anyOf f xs)) ∙ q)
-
--- `Every` of a list written out: what holds of the first, also of the second, and so on, also tt
-infixr 30 _also_
-pub _also_ : {A B : Type 0} → A → B → A × B
-a also b = (a, b)

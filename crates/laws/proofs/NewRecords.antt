@@ -10,7 +10,7 @@ use Rattle.rules.specs.Capabilities.{kinds}
 use Rattle.rules.specs.Procedures.{listLength}
 use Rattle.rules.specs.Messages.{Request}
 use Rattle.rules.specs.Calls.{kindRecords}
-use Rattle.laws.proofs.Lists.{_also_}
+use Rattle.rules.proofs.Lists.{_also_}
 use Rattle.laws.proofs.Stores.{Misses}
 use Rattle.laws.proofs.Records.{Apart, Rising, rising-misses, rising-apart}
 use Rattle.laws.proofs.Slots.{Fits, slot-middle, slot-less-region, regions-apart, fixed, inProcedure}

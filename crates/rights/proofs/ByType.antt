@@ -12,7 +12,7 @@ use lib.ListN.{length, getD}
 use borrow.Author.Tests.{leb-true}
 use Rattle.rules.specs.Words.{Bytes, num, words}
 use Rattle.rules.specs.Capabilities.{Kind, call, register, delete, setEntry, write, number, wordCount, Capability, greatestPrefix, prefix}
-use Rattle.rules.specs.Capabilities.{prefixInRange, coversKey, withinPrefix, coversAddress, withinRange, covers, within}
+use Rattle.rules.specs.Capabilities.{prefixUpTo, prefixInRange, coversKey, withinPrefix, coversAddress, withinRange, covers, within}
 use Rattle.laws.proofs.KindFacts.{number-inj}
 use Rattle.laws.proofs.Numerals.{all-bytes}
 use Rattle.laws.proofs.Parts.{num-part}
@@ -41,7 +41,7 @@ pub record Prefixed (k : Kind) : Type 0 where
   pub range : (c : Capability) → prefixInRange k c ≡ leb (prefix c) greatestPrefix
 
 pub prefixed : (k : Kind) {n : ℕ} → number k ≡ n → n ≢ 6 → n ≢ 7 → Prefixed k
-unfolding number wordCount covers within prefixInRange
+unfolding number wordCount covers within prefixUpTo
 prefixed call p e w = record { count = refl; covering = λ c x. refl; containing = λ b a. refl; range = λ c. refl }
 prefixed register p e w = record { count = refl; covering = λ c x. refl; containing = λ b a. refl; range = λ c. refl }
 prefixed delete p e w = record { count = refl; covering = λ c x. refl; containing = λ b a. refl; range = λ c. refl }
@@ -80,7 +80,7 @@ prefix-fits t {first = first} w r =
 
 -- a type with no prefix, and one with a prefix in its first word
 pub no-prefix : (k : Kind) {n : ℕ} → number k ≡ n → 5 < n → (c : Capability) → true ≡ prefixInRange k c
-unfolding number prefixInRange
+unfolding number prefixUpTo
 no-prefix call p h c = absurd (omega arith)
 no-prefix register p h c = absurd (omega arith)
 no-prefix delete p h c = absurd (omega arith)

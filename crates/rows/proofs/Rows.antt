@@ -14,7 +14,7 @@ use borrow.Author.Tests.{eq-eqb, ne-eqb, le-leb, lt-leb, le-ltb, lt-ltb}
 use Rattle.rules.specs.Words.{Bytes, wordBytes, num, words}
 use Rattle.rules.specs.Table.{_holds_}
 use Rattle.rules.specs.KernelStorage.{endSecond, endThird}
-use Rattle.rules.specs.Capabilities.{Kind, call, register, delete, setEntry, write, number, kindOf, wordCount, prefixInRange}
+use Rattle.rules.specs.Capabilities.{Kind, call, register, delete, setEntry, write, number, kindOf, wordCount, prefixUpTo, prefixInRange}
 use Rattle.rules.specs.Source.{isKind, wordsOf}
 use Rattle.laws.proofs.KindFacts.{words-of, kindOf-some}
 use Rattle.laws.proofs.Tests.{eqb-same, leb-same}
@@ -35,7 +35,7 @@ module _ (k : ℕ) {b : ℕ} (e : b ≡ endSecond k) where
 
 -- a word's prefix, read as that of a capability whose first word it is
 prefix-read : (kind : Kind) (w : Bytes) → length w ≡ wordBytes → prefixInRange kind (capabilityIn kind w) ≡ prefixInRange kind (num w ∷ [])
-unfolding wordCount words prefixInRange
+unfolding wordCount words prefixUpTo
 prefix-read call w h = rw (take-all 32 w (omega arith))
 prefix-read register w h = rw (take-all 32 w (omega arith))
 prefix-read delete w h = rw (take-all 32 w (omega arith))

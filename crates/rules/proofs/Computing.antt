@@ -4,7 +4,7 @@
 use Rattle.rules.specs.Words.{numAfter, num, bytesBefore, bytesOf, word, wordAt, words, sameBytes}
 use Rattle.rules.specs.Table.{get, recordBefore, put, puts, recordBytes, bytes, room, occupied, store, lengthFits, ascendingAbove, ascending, recordForm}
 use Rattle.rules.specs.KernelStorage.{inKernelStorage, slot, middleOf, endSecond, endThird, ending, addressSlot, indexSlot, countSlot, wordSlot, lengthSlot, placeSlot, kernelAddressSlot, currentSlot, entrySlot}
-use Rattle.rules.specs.Capabilities.{number, kindAmong, kindOf, wordCount, wordOf, greatestPrefix, prefix, base, firstBits, coversKey, withinPrefix, coversAddress, withinRange, covers, within, prefixInRange}
+use Rattle.rules.specs.Capabilities.{number, kindAmong, kindOf, wordCount, wordOf, greatestPrefix, prefix, base, firstBits, coversKey, withinPrefix, coversAddress, withinRange, covers, within, prefixUpTo}
 use Rattle.rules.specs.Procedures.{listLength, keyAt, addressOf, indexOf, countOf, kernelAddress, current, entryKey, wordsFrom, capability, capabilitiesFrom, held, listed}
 use Rattle.rules.specs.Sound.{allOf, anyOf, allPlaces, isKey, isAddress, kindSound, placeSound, wordBelongs, kindBelongs, procedureBelongs, ofListedProcedure, placeBelongs, fixedBelongs, belongs, recordBelongs, sound, soundTable}
 use Rattle.rules.specs.Messages.{typeOf, dataOf, kindOrUnknown, named, minimum, openEnded, overlong, indexWord, keyWord, addressWord, writeAddress, writeValue, payloadOf, keyTooLong, addressTooLong, leadingBytes, requestOf, requestAt, addRequest, seriesFrom, series, seriesOf, malformed, orEmpty, requests, sameKind, requestedOf}
@@ -27,7 +27,7 @@ unfolding inKernelStorage slot middleOf endSecond endThird ending addressSlot in
 computing-kernelStorage = tt
 
 unfoldable computing-capabilities : Unit {0}
-unfolding number kindAmong kindOf wordCount wordOf greatestPrefix prefix base firstBits coversKey withinPrefix coversAddress withinRange covers within prefixInRange
+unfolding number kindAmong kindOf wordCount wordOf greatestPrefix prefix base firstBits coversKey withinPrefix coversAddress withinRange covers within prefixUpTo
 computing-capabilities = tt
 
 unfoldable computing-procedures : Unit {0}

@@ -11,12 +11,8 @@ use Rattle.rules.specs.Words.{keyBytes, Bytes}
 use Rattle.rules.specs.Capabilities.{wordOf, prefix, base, firstBits, coversKey, covers}
 use Rattle.rules.specs.Answers.{codeNumber, codeBytes, fields, Refusal, aa, eb, e6, ef, x33, e1, e3, e5, e7, e9, refuse, outcome}
 use Rattle.rules.specs.Examples.{AllTrue, P1, P2, P3, P4, P5, P6, P7, P8, P9, P10, P11, cases, Refuses, SetUpHas13Records, SetUpNeedsItsBytes, WriteSparesKernelStorage, RegisterReportsTests, RequestsAreTestedFirst, CodeIsJudgedBeforeSeries, KeyStandsOnce, KeyIsRegisteredOnce, Types8And9AreUnknown, DataEndsWithItsFormat, OverlongIsJudgedBeforeKeys, CallAndRegisterStayOpenEnded, PrefixReachesTheLastBit, PrefixesEndAt192, WardClosesOneReferral, computed}
+use Rattle.rules.proofs.Lists.{_also_}
 use Rattle.rules.proofs.Computing.{computing}
-
--- the proof of a list's first statement, then those of the others
-infixr 20 _and_
-_and_ : {A B : Type 0} → A → B → A × B
-a and more = (a, more)
 
 no-prefix-covers-every-key : (w key : ℕ) → w < 256 ^ 31 → key < 256 ^ keyBytes → coversKey (w ∷ []) key ≡ true
 unfolding wordOf prefix base firstBits coversKey
@@ -73,7 +69,7 @@ p11 = (refl, refl, refl, refl, refl, refl)
 
 pub P1-to-P11 : AllTrue cases
 unfolding cases
-P1-to-P11 = p1 and p2 and p3 and p4 and p5 and p6 and p7 and p8 and p9 and p10 and p11 and tt
+P1-to-P11 = p1 also p2 also p3 also p4 also p5 also p6 also p7 also p8 also p9 also p10 also p11 also tt
 
 -- what a row of checks comes to that refuses; that a row does is computed
 refuses : (t : Bytes) (code : Refusal) → Refuses (codeBytes (codeNumber code)) t (outcome t (refuse code))
@@ -153,18 +149,18 @@ pub computed-hold : AllTrue computed
 unfolding computed
 computed-hold =
     set-up-has-13-records
-    and set-up-needs-its-bytes
-    and write-spares-kernel-storage
-    and register-reports-tests
-    and requests-are-tested-first
-    and code-is-judged-before-series
-    and key-stands-once
-    and key-is-registered-once
-    and types-8-and-9-are-unknown
-    and data-ends-with-its-format
-    and overlong-is-judged-before-keys
-    and call-and-register-stay-open-ended
-    and prefix-reaches-the-last-bit
-    and prefixes-end-at-192
-    and ward-closes-one-referral
-    and tt
+    also set-up-needs-its-bytes
+    also write-spares-kernel-storage
+    also register-reports-tests
+    also requests-are-tested-first
+    also code-is-judged-before-series
+    also key-stands-once
+    also key-is-registered-once
+    also types-8-and-9-are-unknown
+    also data-ends-with-its-format
+    also overlong-is-judged-before-keys
+    also call-and-register-stay-open-ended
+    also prefix-reaches-the-last-bit
+    also prefixes-end-at-192
+    also ward-closes-one-referral
+    also tt

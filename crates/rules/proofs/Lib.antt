@@ -1,3 +1,4 @@
 pub mod Source
 pub mod Computing
+pub mod Lists
 pub mod Examples

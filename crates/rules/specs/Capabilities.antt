@@ -97,10 +97,14 @@ within delete b a = withinPrefix b a
 within setEntry b a = true
 within write b a = withinRange b a
 
+-- the prefix of a capability, if its type has one, is at most `greatest`
+unfoldable pub prefixUpTo : (greatest : ℕ) → Kind → Capability → Bool
+prefixUpTo greatest call c = leb (prefix c) greatest
+prefixUpTo greatest register c = leb (prefix c) greatest
+prefixUpTo greatest delete c = leb (prefix c) greatest
+prefixUpTo greatest setEntry c = true
+prefixUpTo greatest write c = true
+
 -- "every prefix is in range"
-unfoldable pub prefixInRange : Kind → Capability → Bool
-prefixInRange call c = leb (prefix c) greatestPrefix
-prefixInRange register c = leb (prefix c) greatestPrefix
-prefixInRange delete c = leb (prefix c) greatestPrefix
-prefixInRange setEntry c = true
-prefixInRange write c = true
+abbrev pub prefixInRange : Kind → Capability → Bool
+prefixInRange = prefixUpTo greatestPrefix

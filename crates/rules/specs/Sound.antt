@@ -9,7 +9,7 @@ use lib.Dec.{eqb, leb, ltb}
 use Rattle.rules.specs.Words.{keyBytes, addressBytes, Bytes}
 use Rattle.rules.specs.Table.{Store, Record, get, store, recordForm, RecordForm}
 use Rattle.rules.specs.KernelStorage.{inKernelStorage, middleOf, endSecond, endThird, addressSlot, indexSlot, countSlot, wordSlot, lengthSlot, placeSlot, kernelAddressSlot, currentSlot, entrySlot}
-use Rattle.rules.specs.Capabilities.{Kind, kinds, number, wordCount, prefixInRange}
+use Rattle.rules.specs.Capabilities.{Kind, kinds, number, wordCount, greatestPrefix, prefixUpTo, prefixInRange}
 use Rattle.rules.specs.Procedures.{listLength, keyAt, addressOf, indexOf, countOf, kernelAddress, current, entryKey, capability, held, InList, Listed, listed}
 
 -- "each count is at most 255"
@@ -38,8 +38,8 @@ pub data Belongs (s : Store) : ℕ → Type 0 where
   currentHere : Belongs s currentSlot
   entryHere : Belongs s entrySlot
 
--- What soundness says of the records that a table holds.
-pub record Sound (s : Store) : Type 0 where
+-- What soundness says of the records that a table holds, where prefixes run from 0 to `greatest`.
+pub record SoundUpTo (greatest : ℕ) (s : Store) : Type 0 where
   -- "the length N is at least 1"
   pub atLeastOne : 1 ≤ listLength s
   -- "list places 1 to N hold distinct non-zero 24-byte keys"
@@ -57,14 +57,21 @@ pub record Sound (s : Store) : Type 0 where
   pub kernelAddressFits : IsAddress (kernelAddress s)
   -- "every prefix is in range"
   pub prefixes : (n : ℕ) → InList s n → (kind : Kind) (i : ℕ) → 1 ≤ i → i ≤ countOf s (keyAt s n) kind
-      → prefixInRange kind (capability s (keyAt s n) kind i) ≡ true
+      → prefixUpTo greatest kind (capability s (keyAt s n) kind i) ≡ true
   -- "and no other key of kernel storage is present"
   pub nothingElse : (k : ℕ) → inKernelStorage k ≡ true → get s k ≢ 0 → Belongs s k
 
--- "A table is sound when it has the record form above, and:" what `Sound` says of its store
-pub record SoundTable (t : Bytes) : Type 0 where
+-- "A table is sound when it has the record form above, and:" what `SoundUpTo` says of its store
+pub record SoundTableUpTo (greatest : ℕ) (t : Bytes) : Type 0 where
   pub form : RecordForm t
-  pub sound : Sound (store t)
+  pub sound : SoundUpTo greatest (store t)
+
+-- The soundness in force has the range in force; `whole_keys` sets it beside the soundness of a shorter range.
+abbrev pub Sound : Store → Type 0
+Sound = SoundUpTo greatestPrefix
+
+abbrev pub SoundTable : Bytes → Type 0
+SoundTable = SoundTableUpTo greatestPrefix
 
 -- The test. First: every one of a list passes, some one does, each of the places n down to 1 does.
 unfoldable pub allOf : {A : Type 0} → (A → Bool) → List A → Bool

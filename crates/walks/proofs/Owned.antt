@@ -8,7 +8,7 @@ use mathlib.Core.List.{[], _∷_}
 use mathlib.Core.Bool.{true}
 use Rattle.rules.specs.Table.{Store, get}
 use Rattle.rules.specs.KernelStorage.{slot, ending, middleOf, addressSlot, indexSlot, countSlot, wordSlot, lengthSlot, kernelAddressSlot, currentSlot, entrySlot}
-use Rattle.rules.specs.Capabilities.{Kind, call, register, delete, setEntry, write, number, wordCount, prefixInRange, prefix, wordOf, greatestPrefix}
+use Rattle.rules.specs.Capabilities.{Kind, call, register, delete, setEntry, write, number, wordCount, prefixUpTo, prefixInRange, prefix, wordOf, greatestPrefix}
 use Rattle.rules.specs.Procedures.{keyAt, addressOf, indexOf, countOf, wordsFrom, capability, InList, Listed}
 use Rattle.rules.specs.Sound.{greatestCount, IsAddress, Belongs, address, index, count, capabilityWord, listLengthHere, place, kernelAddressHere, currentHere, entryHere, Sound}
 use Rattle.laws.proofs.Numbers.{same-or-not}
@@ -49,7 +49,7 @@ count-here s k from below kind e z = ap (get s) (ap (slot 0 (middleOf k)) (sym (
 module _ (s : Store) (p i : ℕ) where
   prefix-word : (kind : Kind) (w v : ℕ) → w < wordCount kind → get s (wordSlot p (number kind) i w) ≡ v
       → prefixInRange kind (capability s p kind i) ≡ true → prefixInRange kind (v ∷ []) ≡ true
-  unfolding capability wordsFrom wordCount prefixInRange prefix wordOf
+  unfolding capability wordsFrom wordCount prefixUpTo prefix wordOf
   prefix-word call zero v h e q = rw e at q
   prefix-word call (suc w) v h e q = absurd (omega arith)
   prefix-word register zero v h e q = rw e at q
@@ -61,7 +61,7 @@ module _ (s : Store) (p i : ℕ) where
 
   word-prefix : (kind : Kind) → (1 ≤ wordCount kind → prefixInRange kind (get s (wordSlot p (number kind) i 0) ∷ []) ≡ true)
       → prefixInRange kind (capability s p kind i) ≡ true
-  unfolding capability wordsFrom wordCount prefixInRange prefix wordOf
+  unfolding capability wordsFrom wordCount prefixUpTo prefix wordOf
   word-prefix call h = h (omega arith)
   word-prefix register h = h (omega arith)
   word-prefix delete h = h (omega arith)
@@ -69,7 +69,7 @@ module _ (s : Store) (p i : ℕ) where
   word-prefix write h = refl
 
 no-prefix : (kind : Kind) → prefixInRange kind (0 ∷ []) ≡ true
-unfolding prefixInRange prefix wordOf greatestPrefix
+unfolding prefixUpTo prefix wordOf greatestPrefix
 no-prefix call = refl
 no-prefix register = refl
 no-prefix delete = refl

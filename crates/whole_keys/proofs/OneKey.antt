@@ -11,7 +11,7 @@ use lib.Dec.{eqb, leb, lit<}
 use borrow.Author.Tests.{eqb-true, eq-eqb, leb-true, le-leb}
 use Rattle.rules.specs.Words.{keyBytes, Bytes}
 use Rattle.rules.specs.Table.{store, room}
-use Rattle.rules.specs.Capabilities.{delete, Capability, wordOf, prefix, base, firstBits, coversKey, withinPrefix, covers, within, greatestPrefix, prefixInRange}
+use Rattle.rules.specs.Capabilities.{delete, Capability, wordOf, prefix, base, firstBits, coversKey, withinPrefix, covers, within, greatestPrefix, prefixUpTo}
 use Rattle.rules.specs.Messages.{Named, ofKind, typeOf, dataOf, named, keyWord}
 use Rattle.rules.specs.Answers.{fields, Refusal, x33, Check, _⇒_, Result, refuse, judge, outcome}
 use Rattle.rules.specs.Calls.{chosen, notCovering, doDelete, doKind, doNamed, systemCall}
@@ -61,7 +61,7 @@ module _ (key : ℕ) (fits : key < 256 ^ keyBytes) where
   has-one = (reaches-it, its-base, in-range)
 
 pub every-key-has-one : EveryKeyHasOne
-unfolding prefixInRange
+unfolding prefixUpTo
 every-key-has-one = (has-one, (has-one, (has-one, tt)))
 
 -- a prefix in range is at most 192; that of a capability which lies within is at least 192
@@ -74,7 +74,7 @@ same-right b a whole range q =
     (omega arith, eqb-true (base b) (base a) (sym (same-bits a whole (base b) (base a)) ∙ bits))
 
 pub stays-one-key : StaysOneKey
-unfolding within prefixInRange
+unfolding within prefixUpTo
 stays-one-key = (same-right, (same-right, (same-right, tt)))
 
 -- A Delete, from its own row to the whole call: a check that fails refuses, and one that has passed shows what is covered.

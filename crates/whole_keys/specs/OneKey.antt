@@ -1,6 +1,6 @@
 -- Document 02, No. 2: "no ward can hold a right to close one referral". With a prefix of 192 bits it can, whichever referral
 -- that is: such a right covers its base key and no other.
-use Prim.Native.Nat.{ℕ, _^_, _<_}
+use Prim.Native.Nat.{ℕ, _*_, _^_, _<_}
 use mathlib.Core.Path.{_≡_}
 use mathlib.Core.Logic.{_↔_}
 use mathlib.Core.Bool.{true}
@@ -12,9 +12,9 @@ use Rattle.rules.specs.Calls.{chosen, systemCall}
 use Rattle.rules.specs.Demands.{succeeds}
 use Rattle.rules.specs.Examples.{EachPrefixType, prefixOfKey}
 
--- all the bits of a key
+-- all the bits of a key: 192
 abbrev pub wholeKey : ℕ
-wholeKey = 192
+wholeKey = 8 * keyBytes
 
 -- a right to one key: all bits are compared; bytes 1 to 7 of its word may hold anything
 abbrev pub ToOneKey : Capability → Type 0
