@@ -7,8 +7,8 @@ ghost use Prim.Native.Nat.{_*_, _^_, _≤_, _<_};
 ghost use lib.ListN.{length};
 ghost use Rattle.rules.specs.Words.{wordBytes, addressBytes, num, bytesOf};
 ghost use Rattle.rules.specs.Table.{room, store};
-ghost use Rattle.rules.specs.Answers.{outcome};
-ghost use Rattle.rules.specs.Calls.{doCall, doSetEntry, doWrite};
+ghost use Rattle.rules.specs.Answers.{_then_, outcome};
+ghost use Rattle.rules.specs.Calls.{callRow, callEffect, setEntryRow, setEntryEffect, writeRow, writeEffect};
 ghost use Rattle.results.specs.Results.{SoundWith, NamesKey, Gives};
 
 // Where in a word an address begins.
@@ -28,7 +28,7 @@ fn address_part(word: &[u8]) -> [u8; rules::ADDRESS_BYTES]
 pub fn call(t: &[u8], used: usize, d: &[u8]) -> Reply
     requires { ⌜ SoundWith (now t) used ⌝ }
     requires { ⌜ NamesKey (now d) ⌝ }
-    ensures { λ r. ⌜ Gives (outcome (now (t .entry)) (doCall (store (now (t .entry))) (now (d .entry)))) r (now (t .entry)) ⌝ }
+    ensures { λ r. ⌜ Gives (outcome (now (t .entry)) (callRow (store (now (t .entry))) (now (d .entry)) then callEffect (store (now (t .entry))) (now (d .entry)))) r (now (t .entry)) ⌝ }
 {
     if !acting::permits(t, used, Kind::CALL, d, messages::key_word(d)) {
         return Reply::refused(Refusal::NOT_COVERED);
@@ -45,7 +45,7 @@ pub fn call(t: &[u8], used: usize, d: &[u8]) -> Reply
 pub fn set_entry(t: &mut [u8], used: usize, d: &[u8]) -> Reply
     requires { ⌜ SoundWith (now t) used ⌝ }
     requires { ⌜ NamesKey (now d) ⌝ }
-    ensures { λ r. ⌜ Gives (outcome (now (t .entry)) (doSetEntry (store (now (t .entry))) (now (d .entry)))) r (now (t .exit)) ⌝ }
+    ensures { λ r. ⌜ Gives (outcome (now (t .entry)) (setEntryRow (store (now (t .entry))) (now (d .entry)) then setEntryEffect (store (now (t .entry))) (now (d .entry)))) r (now (t .exit)) ⌝ }
 {
     if !acting::index_in_range(t, used, Kind::SET_ENTRY, d) {
         return Reply::refused(Refusal::NOT_COVERED);
@@ -62,7 +62,7 @@ pub fn set_entry(t: &mut [u8], used: usize, d: &[u8]) -> Reply
 pub fn write(t: &mut [u8], used: usize, d: &[u8]) -> Reply
     requires { ⌜ SoundWith (now t) used ⌝ }
     requires { ⌜ 3 * wordBytes ≤ length (now d) ⌝ }
-    ensures { λ r. ⌜ Gives (outcome (now (t .entry)) (doWrite (room (now (t .entry))) (store (now (t .entry))) (now (d .entry)))) r (now (t .exit)) ⌝ }
+    ensures { λ r. ⌜ Gives (outcome (now (t .entry)) (writeRow (room (now (t .entry))) (store (now (t .entry))) (now (d .entry)) then writeEffect (store (now (t .entry))) (now (d .entry)))) r (now (t .exit)) ⌝ }
 {
     let address = messages::write_address(d);
     let value = messages::write_value(d);

@@ -7,8 +7,8 @@ ghost use lib.Dec.{eqb};
 ghost use Rattle.rules.specs.Table.{store};
 ghost use Rattle.rules.specs.Procedures.{entryKey, current};
 ghost use Rattle.rules.specs.Messages.{keyWord};
-ghost use Rattle.rules.specs.Answers.{outcome};
-ghost use Rattle.rules.specs.Calls.{doDelete};
+ghost use Rattle.rules.specs.Answers.{_then_, outcome};
+ghost use Rattle.rules.specs.Calls.{deleteRow, deleteEffect};
 ghost use Rattle.results.specs.Results.{SoundWith, NamesKey, Gives};
 
 // Whether the message names the entry key.
@@ -34,7 +34,7 @@ fn names_current(t: &[u8], used: usize, d: &[u8]) -> bool
 pub fn delete(t: &mut [u8], used: usize, d: &[u8]) -> Reply
     requires { ⌜ SoundWith (now t) used ⌝ }
     requires { ⌜ NamesKey (now d) ⌝ }
-    ensures { λ r. ⌜ Gives (outcome (now (t .entry)) (doDelete (store (now (t .entry))) (now (d .entry)))) r (now (t .exit)) ⌝ }
+    ensures { λ r. ⌜ Gives (outcome (now (t .entry)) (deleteRow (store (now (t .entry))) (now (d .entry)) then deleteEffect (store (now (t .entry))) (now (d .entry)))) r (now (t .exit)) ⌝ }
 {
     if !acting::permits(t, used, Kind::DELETE, d, messages::key_word(d)) {
         return Reply::refused(Refusal::NOT_COVERED);

@@ -6,18 +6,18 @@ use mathlib.Core.Path.{_≡_, refl, sym, ap, _∙_, subst}
 use mathlib.Core.Logic.{_≢_, inl, inr}
 use mathlib.Core.List.{List, [], _∷_, _++_}
 use mathlib.Core.Bool.{Bool, true, false, true≢false, not}
-use lib.Dec.{eqb, ltb}
-use lib.ListN.{length}
+use lib.Dec.{eqb}
+use lib.ListN.{take}
 use Rattle.rules.specs.Words.{Bytes}
 use Rattle.rules.specs.Table.{Store, room, store, lengthFits}
 use Rattle.rules.specs.Capabilities.{Kind, call, register, delete, setEntry, write}
 use Rattle.rules.specs.Sound.{anyOf, soundTable}
-use Rattle.rules.specs.Messages.{typeOf, dataOf, Named, null, unknown, ofKind, named, minimum, openEnded, overlong, leadingBytes}
-use Rattle.rules.specs.Answers.{Refusal, ed, ef, e0, ea, eb, e6, e4, x6633, e7, codeNumber, Answer, refused, fields, Result, refuse, answer, change, Check, _⇒_, judge, outcome}
-use Rattle.rules.specs.Calls.{setUp, turn, look, doCall, doSetEntry, doDelete, doWrite, doRegister, doKind, doNamed, systemCall}
+use Rattle.rules.specs.Messages.{typeOf, dataOf, Named, null, unknown, ofKind, named, openEnded, overlong, leadingBytes}
+use Rattle.rules.specs.Answers.{Refusal, ed, ef, e0, ea, e4, x6633, e7, codeNumber, Answer, refused, fields, Result, refuse, answer, change, Check, judge, outcome}
+use Rattle.rules.specs.Calls.{setUpRow, setUp, turnRow, turn, lookRow, look, callRow, setEntryRow, deleteRow, writeRow, registerRow, kindRow, doKind, namedRow, doNamed, systemRow, systemCall}
 use Rattle.rules.specs.Demands.{AnyCall, settingUp, turning, looking, calling, Kernel, defined, perform, codesOfKind, codesOfNamed, codesOf, OneOf, ListedAnswer, success, refusal, Demand1, Demand2}
 use Rattle.laws.proofs.Lists.{true-any}
-use Rattle.laws.proofs.Rows.{In, here, there, judge-cases}
+use Rattle.laws.proofs.Rows.{In, here, there, judge-cases, judge-append}
 
 -- flag 1 without code bytes
 abbrev Success : Answer → Type 0
@@ -60,7 +60,7 @@ among-after (x ∷ before) a = more (among-after before a)
 -- of the list up to the check's: the longest row, Register's, has 11 checks to place among 9 codes, so a depth of 30 is enough for all.
 -- In that row more rules are tried than the 1,000 that a search may try unless it says `fits`.
 kind-among : (rooms : ℕ) (s : Store) (d code mask : Bytes) (kind : Kind) → Among (codesOfKind kind) (doKind rooms s d code mask kind)
-unfolding doKind doCall doRegister doDelete doSetEntry doWrite fields
+unfolding kindRow callRow registerRow deleteRow setEntryRow writeRow fields
 kind-among rooms s d code mask call = row-among (search codes depth 30) (answers (refl, refl))
 kind-among rooms s d code mask register = row-among (search codes depth 30 fits 2000) (changes (refl, refl))
 kind-among rooms s d code mask delete = row-among (search codes depth 30) (changes (refl, refl))
@@ -69,20 +69,22 @@ kind-among rooms s d code mask write = row-among (search codes depth 30) (change
 
 -- the row before a type's own; Call and Register are open-ended, so their check for 66 eb never fails, and a Write has no key word,
 -- so its check for 66 e6 never does
-before-kind : (d : Bytes) (kind : Kind)
-    → CodesAmong (codesOfNamed (ofKind kind)) (ltb (length d) (minimum kind) ⇒ e0 ∷ overlong kind d ⇒ eb ∷ leadingBytes kind d ⇒ e6 ∷ [])
-unfolding openEnded overlong leadingBytes
-before-kind d call = search codes depth 12
-before-kind d register = search codes depth 12
-before-kind d delete = search codes depth 12
-before-kind d setEntry = search codes depth 12
-before-kind d write = search codes depth 12
+before-kind : (rooms : ℕ) (s : Store) (d code mask : Bytes) (kind : Kind)
+    → CodesAmong (codesOfNamed (ofKind kind)) (take 3 (namedRow rooms s d code mask (ofKind kind)))
+unfolding namedRow openEnded overlong leadingBytes
+before-kind rooms s d code mask call = search codes depth 12
+before-kind rooms s d code mask register = search codes depth 12
+before-kind rooms s d code mask delete = search codes depth 12
+before-kind rooms s d code mask setEntry = search codes depth 12
+before-kind rooms s d code mask write = search codes depth 12
 
 named-among : (rooms : ℕ) (s : Store) (d code mask : Bytes) (n : Named) → Among (codesOfNamed n) (doNamed rooms s d code mask n)
-unfolding doNamed fields
+unfolding namedRow fields
 named-among rooms s d code mask null = row-among (search codes) (answers (refl, refl))
-named-among rooms s d code mask unknown = refuses (inl refl)
-named-among rooms s d code mask (ofKind kind) = row-among (before-kind d kind) (among-after (e0 ∷ []) (kind-among rooms s d code mask kind))
+named-among rooms s d code mask unknown = row-among (search codes) (answers (refl, refl))
+named-among rooms s d code mask (ofKind kind) =
+    rw (judge-append (take 3 (namedRow rooms s d code mask (ofKind kind)))) (
+    row-among (before-kind rooms s d code mask kind) (among-after (e0 ∷ []) (kind-among rooms s d code mask kind)))
 
 -- such a result gives a listed answer; a refusal leaves the table as lent
 listed : {t : Bytes} {c : AnyCall} {r : Result} → Among (codesOf c) r → ListedAnswer t c (outcome t r)
@@ -92,13 +94,13 @@ listed (answers h) = success (h .0) (h .1)
 listed (changes h) = success (h .0) (h .1)
 
 defined-listed : (t : Bytes) (c : AnyCall) → ListedAnswer t c (perform defined t c)
-unfolding perform setUp turn look systemCall fields
+unfolding perform setUp setUpRow turn turnRow look lookRow systemCall systemRow fields
 defined-listed t (settingUp k a ka) = listed (row-among (search codes depth 30) (changes (refl, refl)))
 defined-listed t (turning k) = listed (row-among (search codes depth 30) (changes (refl, refl)))
 defined-listed t (looking k) = listed (row-among (search codes depth 30) (answers (refl, refl)))
 defined-listed t (calling m code mask) =
-    listed (row-among (search codes depth 30) (
-    among-after (ed ∷ ef ∷ e0 ∷ ea ∷ []) (named-among (room t) (store t) (dataOf m) code mask (named (typeOf m)))))
+    listed (rw (judge-append (systemRow t m mask)) (row-among (search codes depth 30) (
+    among-after (ed ∷ ef ∷ e0 ∷ ea ∷ []) (named-among (room t) (store t) (dataOf m) code mask (named (typeOf m))))))
 
 pub demand-1 : (K : Kernel) → Demand2 K → Demand1 K
 demand-1 K same t c bs lent = subst (ListedAnswer t c) (sym (same t c bs lent)) (defined-listed t c)
@@ -137,7 +139,7 @@ named-apart (ofKind write) = refl
 
 pub never-unsound : (t : Bytes) → not (lengthFits t) ≡ false → not (soundTable t) ≡ false
     → (c : AnyCall) → perform defined t c .answer ≢ refused ef
-unfolding perform setUp turn look systemCall fields anyOf isUnsound codeNumber
+unfolding perform setUp setUpRow turn turnRow look lookRow systemCall systemRow fields anyOf isUnsound codeNumber
 never-unsound t fits sound (settingUp k a ka) =
     never-ef t (otherCodes (settingUp k a ka)) refl (row-among (search codes depth 30) (changes (refl, refl)))
 never-unsound t fits sound (turning k) =
@@ -146,5 +148,5 @@ never-unsound t fits sound (looking k) =
     never-ef t (otherCodes (looking k)) refl (row-among (search codes depth 30) (answers (refl, refl)))
 never-unsound t fits sound (calling m code mask) =
     never-ef t (otherCodes (calling m code mask)) (named-apart (named (typeOf m)))
-    (row-among (search codes depth 30) (
-    among-after (ed ∷ e0 ∷ ea ∷ []) (named-among (room t) (store t) (dataOf m) code mask (named (typeOf m)))))
+    (rw (judge-append (systemRow t m mask)) (row-among (search codes depth 30) (
+    among-after (ed ∷ e0 ∷ ea ∷ []) (named-among (room t) (store t) (dataOf m) code mask (named (typeOf m))))))

@@ -7,10 +7,10 @@ use Rattle.rules.specs.Demands.{AnyCall, LentBytes, Kernel, defined, perform, D
 use Rattle.laws.proofs.Rows.{judge-cases}
 use Rattle.rules.proofs.Source.{reply-fields}
 use Rattle.rules.specs.Source.{fieldsOf, OwnPayload, replyOf}
-use Rattle.rules.specs.Calls.{setUp, turn, look, systemCall, doKind, doNamed, doCall, doRegister, doDelete, doSetEntry, doWrite}
+use Rattle.rules.specs.Calls.{setUp, turn, look, kindEffect, namedEffect, systemCall}
 use mathlib.Core.List.{List}
 use Rattle.rules.specs.Messages.{null, unknown, named, Named, typeOf, dataOf, ofKind}
-use Rattle.rules.specs.Table.{room, store}
+use Rattle.rules.specs.Table.{store}
 use Rattle.rules.specs.Capabilities.{Kind, call, register, delete, setEntry, write}
 
 -- the rules themselves meet it
@@ -33,23 +33,23 @@ refused-own : (m t : Bytes) (cs : List Check) (r : Result) → own m t r → own
 unfolding own outcome
 refused-own m t cs r h = judge-cases (own m t) cs r (λ c i e. tt) (λ ps. h)
 
-kind-own : (t m code mask : Bytes) (kind : Kind) → own m t (doKind (room t) (store t) (dataOf m) code mask kind)
-unfolding own outcome doKind doCall doRegister doDelete doSetEntry doWrite
-kind-own t m code mask call = refused-own m t _ _ refl
-kind-own t m code mask register = refused-own m t _ _ tt
-kind-own t m code mask delete = refused-own m t _ _ tt
-kind-own t m code mask setEntry = refused-own m t _ _ tt
-kind-own t m code mask write = refused-own m t _ _ tt
+kind-own : (t m : Bytes) (kind : Kind) → own m t (kindEffect (store t) (dataOf m) kind)
+unfolding own outcome
+kind-own t m call = refl
+kind-own t m register = tt
+kind-own t m delete = tt
+kind-own t m setEntry = tt
+kind-own t m write = tt
 
-named-own : (t m code mask : Bytes) (n : Named) → own m t (doNamed (room t) (store t) (dataOf m) code mask n)
-unfolding own outcome doNamed
-named-own t m code mask null = refused-own m t _ _ tt
-named-own t m code mask unknown = tt
-named-own t m code mask (ofKind kind) = refused-own m t _ _ (kind-own t m code mask kind)
+named-own : (t m : Bytes) (n : Named) → own m t (namedEffect (store t) (dataOf m) n)
+unfolding own outcome
+named-own t m null = tt
+named-own t m unknown = tt
+named-own t m (ofKind kind) = kind-own t m kind
 
 pub own-payload : (t m code mask : Bytes) → OwnPayload m (systemCall t m code mask .answer)
 unfolding systemCall own
-own-payload t m code mask = refused-own m t _ _ (named-own t m code mask (named (typeOf m)))
+own-payload t m code mask = refused-own m t _ _ (named-own t m (named (typeOf m)))
 
 -- no other call has a payload, so their replies need no message
 pub set-up-payload : (t k a ka m : Bytes) → OwnPayload m (setUp t k a ka .answer)

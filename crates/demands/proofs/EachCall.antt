@@ -6,7 +6,7 @@ use mathlib.Core.Logic.{_≢_, _⊎_, inl, inr}
 use mathlib.Core.List.{List}
 use mathlib.Core.Bool.{true, false, true≢false, not}
 use lib.Dec.{eqb, ltb}
-use lib.ListN.{length}
+use lib.ListN.{length, take}
 use borrow.Author.Tests.{eqb-false, leb-false, ltb-false, eq-eqb, ne-eqb}
 use Rattle.rules.specs.Words.{Bytes, Every, AllBytes, num}
 use Rattle.rules.specs.Table.{Store, get, put, room, store, Sized}
@@ -15,8 +15,8 @@ use Rattle.rules.specs.Capabilities.{Kind, call, register, delete, setEntry, wr
 use Rattle.rules.specs.Procedures.{countOf, current, entryKey, capability, held, Listed, listed}
 use Rattle.rules.specs.Sound.{allOf}
 use Rattle.rules.specs.Messages.{seriesAt, typeOf, dataOf, Named, null, unknown, ofKind, named, minimum, indexWord, keyWord, addressWord, writeAddress, writeValue, keyTooLong, addressTooLong, leadingBytes, Request, requests, requestedOf}
-use Rattle.rules.specs.Answers.{e0, aa, e6, e4, x33, x77, e1, e2, e3, x6633, e7, done, registered, fields, change, _⇒_, Outcome, outcome}
-use Rattle.rules.specs.Calls.{isZero, noRoom, afterRegister, setUp, turn, look, indexOutOfRange, chosen, notCovering, doCall, doSetEntry, afterDelete, doDelete, doWrite, contained, tests, tooMany, doRegister, doKind, doNamed, systemCall}
+use Rattle.rules.specs.Answers.{e0, aa, e6, e4, x33, x77, e1, e2, e3, x6633, e7, done, registered, fields, change, _⇒_, _then_, Outcome, outcome}
+use Rattle.rules.specs.Calls.{isZero, noRoom, afterRegister, setUpRow, setUp, turnRow, turn, lookRow, look, indexOutOfRange, chosen, notCovering, callRow, callEffect, setEntryRow, setEntryEffect, afterDelete, deleteRow, deleteEffect, writeRow, writeEffect, contained, tests, tooMany, registerRow, registerEffect, kindRow, doKind, namedRow, doNamed, systemRow, systemCall}
 use Rattle.rules.specs.Demands.{AnyCall, settingUp, turning, looking, calling, LentBytes, defined, perform, IsWrite, succeeds, LiesWithinOne, registrar, registers, CoveredMessage, Continues}
 use Rattle.laws.proofs.Bools.{or-left, or-right, tests-true}
 use Rattle.laws.proofs.Numbers.{same-or-not, non-zero}
@@ -24,7 +24,7 @@ use Rattle.laws.proofs.Lists.{all-true, any-every}
 use Rattle.laws.proofs.Words.{drop-bytes, wordAt-bound, words-bound}
 use Rattle.laws.proofs.Stores.{get-put-same, get-put-other}
 use Rattle.laws.proofs.KindFacts.{named-number, named-kind}
-use Rattle.laws.proofs.Rows.{member, passed-not, judge-cases}
+use Rattle.laws.proofs.Rows.{member, passed-not, judge-cases, judge-append}
 use Rattle.laws.proofs.Places.{listed-fits}
 use Rattle.laws.proofs.Procedures.{Good, short, listed-true, listed-here, each-held, bodyOf}
 use Rattle.laws.proofs.TableDecides.{GoodTable, written-store}
@@ -88,7 +88,7 @@ module _ (t : Bytes) (g : GoodTable t) where
       (λ k out. inl (get-put-other s x p k (λ q. kernel-apart k x out (h .inside) (sym q)))))
 
   turn-step : (k : Bytes) → Step t (turning k) (turn t k)
-  unfolding turn registers
+  unfolding turn turnRow registers
   turn-step k =
       row-step t g (turning k) _ _ (λ ps. turned
       (listed-true s (num k) (passed-not (ps (not (listed s (num k)) ⇒ x6633) (search member depth 12)))))
@@ -105,12 +105,12 @@ module _ (t : Bytes) (g : GoodTable t) where
           })
 
   look-step : (k : Bytes) → Step t (looking k) (look t k)
-  unfolding look registers
+  unfolding look lookRow registers
   look-step k = row-step t g (looking k) _ _ (λ ps. answer-step t g (looking k) _ (λ p. refl))
 
   -- a set-up that does not succeed is refused
   setUp-step : (k a ka : Bytes) → succeeds (setUp t k a ka) ≡ false → Step t (settingUp k a ka) (setUp t k a ka)
-  unfolding setUp outcome succeeds fields
+  unfolding setUp setUpRow outcome succeeds fields
   setUp-step k a ka =
       judge-cases (λ r. succeeds (outcome t r) ≡ false → Step t (settingUp k a ka) (outcome t r)) _ _
       (λ check i e h. refuse-step t g (settingUp k a ka) (check .code))
@@ -135,12 +135,12 @@ module _ (t : Bytes) (g : GoodTable t) where
     not-write : (kind : Kind) → typeOf m ≡ number kind → eqb (number kind) (number write) ≡ false → IsWrite c → ⊥
     not-write kind is apart w = eqb-false _ _ apart (sym is ∙ w)
 
-    call-step : typeOf m ≡ number call → Step t c (outcome t (doCall s d))
-    unfolding doCall number
+    call-step : typeOf m ≡ number call → Step t c (outcome t (callRow s d then callEffect s d))
+    unfolding callRow number
     call-step is = row-step t g c _ _ (λ ps. answer-step t g c _ (quiet-type call is refl _))
 
-    setEntry-step : typeOf m ≡ number setEntry → Step t c (outcome t (doSetEntry s d))
-    unfolding doSetEntry number
+    setEntry-step : typeOf m ≡ number setEntry → Step t c (outcome t (setEntryRow s d then setEntryEffect s d))
+    unfolding setEntryRow number
     setEntry-step is =
         row-step t g c _ _ (λ ps. entered
         (listed-true s (keyWord d) (passed-not (ps (not (listed s (keyWord d)) ⇒ x6633) (search member depth 12)))))
@@ -205,8 +205,8 @@ module _ (t : Bytes) (g : GoodTable t) where
             })
         only-x k (inr apart) = inl (get-put-other s x v k apart)
 
-    write-step : typeOf m ≡ number write → minimum write ≤ length d → Step t c (outcome t (doWrite (room t) s d))
-    unfolding doWrite indexOutOfRange notCovering chosen noRoom
+    write-step : typeOf m ≡ number write → minimum write ≤ length d → Step t c (outcome t (writeRow (room t) s d then writeEffect s d))
+    unfolding writeRow indexOutOfRange notCovering chosen noRoom
     write-step is long =
         row-step t g c _ _ (λ ps. written is long (record {
           index = leb-false _ _ (ps (indexOutOfRange s d write ⇒ x33) (search member depth 12));
@@ -224,8 +224,8 @@ module _ (t : Bytes) (g : GoodTable t) where
         (quiet-effect t g c _ _ (quiet-type delete is refl _) (delete-same deletion)
         (λ w. absurd (not-write delete is refl w)) (λ k out. inl (delete-outside deletion k out)))
 
-    delete-step : typeOf m ≡ number delete → Step t c (outcome t (doDelete s d))
-    unfolding doDelete
+    delete-step : typeOf m ≡ number delete → Step t c (outcome t (deleteRow s d then deleteEffect s d))
+    unfolding deleteRow
     delete-step is =
         row-step t g c _ _ (λ ps. deleted is (record {
           good = g .good;
@@ -268,8 +268,8 @@ module _ (t : Bytes) (g : GoodTable t) where
         only-own q h = unfold registers in (search tests-true)
 
     register-step : typeOf m ≡ number register → leadingBytes register d ≡ false
-        → Step t c (outcome t (doRegister (room t) s d code mask))
-    unfolding doRegister noRoom isZero leadingBytes keyTooLong addressTooLong
+        → Step t c (outcome t (registerRow (room t) s d code mask then registerEffect s d (tests s (requests d))))
+    unfolding registerRow noRoom isZero leadingBytes keyTooLong addressTooLong
     register-step is leading =
         row-step t g c _ _ (λ ps. added is (record {
           registration = record {
@@ -300,7 +300,7 @@ module _ (t : Bytes) (g : GoodTable t) where
     -- any type's row, and the rows before it
     kind-step : (kind : Kind) → typeOf m ≡ number kind → minimum kind ≤ length d → leadingBytes kind d ≡ false
         → Step t c (outcome t (doKind (room t) s d code mask kind))
-    unfolding doKind
+    unfolding kindRow
     kind-step call is long leading = call-step is
     kind-step register is long leading = register-step is leading
     kind-step delete is long leading = delete-step is
@@ -308,7 +308,7 @@ module _ (t : Bytes) (g : GoodTable t) where
     kind-step write is long leading = write-step is long
 
     named-step : (n : Named) → named (typeOf m) ≡ n → Step t c (outcome t (doNamed (room t) s d code mask n))
-    unfolding doNamed registers
+    unfolding namedRow registers
     named-step null q = row-step t g c _ _ (λ ps. answer-step t g c done (λ p. rw (ne-eqb (typeOf m) (number register) null-no-register)))
       where
         null-no-register : typeOf m ≢ number register
@@ -316,15 +316,16 @@ module _ (t : Bytes) (g : GoodTable t) where
             let r = named-number register in
             let n = ap named z in
             true≢false (cc)
-    named-step unknown q = refuse-step t g c aa
+    named-step unknown q = row-step t g c _ _ (λ ps. absurd (true≢false (ps (true ⇒ aa) (search member depth 12))))
     named-step (ofKind kind) q =
+        rw (judge-append (take 3 (namedRow (room t) s d code mask (ofKind kind)))) (
         row-step t g c _ _ (λ ps. kind-step kind (named-kind (typeOf m) kind q)
         (ltb-false _ _ (ps (ltb (length d) (minimum kind) ⇒ e0) (search member depth 12)))
-        (ps (leadingBytes kind d ⇒ e6) (search member depth 12)))
+        (ps (leadingBytes kind d ⇒ e6) (search member depth 12))))
 
     system-step : Step t c (systemCall t m code mask)
     unfolding systemCall
-    system-step = row-step t g c _ _ (λ ps. named-step (named (typeOf m)) refl)
+    system-step = rw (judge-append (systemRow t m mask)) (row-step t g c _ _ (λ ps. named-step (named (typeOf m)) refl))
 
   -- each call that continues a sequence
   pub defined-step : (c : AnyCall) → LentBytes c → Continues c (perform defined t c) → Step t c (perform defined t c)

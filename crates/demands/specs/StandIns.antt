@@ -3,18 +3,16 @@
 use Prim.Native.Nat.{ℕ, suc, _-_}
 use mathlib.Core.List.{[], _∷_, _++_}
 use mathlib.Core.Bool.{true, false, not}
-use lib.Dec.{eqb, ltb}
+use lib.Dec.{eqb}
 use lib.ListN.{length, take, drop, replicate}
-use Rattle.rules.specs.Words.{wordBytes, Bytes, word}
+use Rattle.rules.specs.Words.{Bytes, word}
 use Rattle.rules.specs.Table.{recordSize, Store, _holds_, put, recordBytes, bytes, store, room}
 use Rattle.rules.specs.KernelStorage.{kernelAddressSlot}
 use Rattle.rules.specs.Capabilities.{register, number}
-use Rattle.rules.specs.Procedures.{listLength, listed}
-use Rattle.rules.specs.Sound.{soundTable, allOf}
-use Rattle.rules.specs.Messages.{greatestMessage, typeOf, dataOf, minimum, keyWord, addressWord, leadingBytes, seriesOf, malformed, requests, nullNumber}
-use Rattle.rules.specs.Validation.{passes}
-use Rattle.rules.specs.Answers.{ed, ef, e0, ea, e6, e4, x33, e9, e5, x77, e1, e8, e7, Answer, refused, done, called, registered, looked, Result, change, _⇒_, _then_, Outcome, outcome, x6633}
-use Rattle.rules.specs.Calls.{wrongBytes, isZero, noRoom, greatestList, afterRegister, setUp, turn, look, indexOutOfRange, notCovering, contained, tests, tooMany, systemCall}
+use Rattle.rules.specs.Sound.{allOf}
+use Rattle.rules.specs.Messages.{typeOf, dataOf, ofKind, keyWord, requests, nullNumber}
+use Rattle.rules.specs.Answers.{x33, Answer, refused, done, called, registered, looked, Result, change, _⇒_, _then_, Outcome, outcome, x6633}
+use Rattle.rules.specs.Calls.{afterRegister, setUp, turn, look, contained, tests, registerRow, registerEffect, namedRow, systemRow, systemCall}
 use Rattle.rules.specs.Demands.{Kernel, succeeds}
 
 -- each function gives another outcome than the defined one, from that and the table lent
@@ -43,34 +41,20 @@ agreeing = everywhere (λ t o. record { answer = done; table = o .table })
 abbrev pub untouching : Kernel
 untouching = everywhere (λ t o. record { answer = o .answer; table = t })
 
--- "one that tests and stores the first requested capability and copies the others untested"
+-- "one that tests and stores the first requested capability and copies the others untested": the eighth check of Register's row
+-- is another
 unfoldable pub copyRegister : (rooms : ℕ) → Store → (d code mask : Bytes) → Result
 copyRegister rooms s d code mask =
-    ltb (length d) (minimum register) ⇒ e0
-    ∷ leadingBytes register d ⇒ e6
-    ∷ isZero (keyWord d) ⇒ e4
-    ∷ isZero (addressWord d) ⇒ e4
-    ∷ indexOutOfRange s d register ⇒ x33
-    ∷ notCovering s d register (keyWord d) ⇒ x33
-    ∷ not (passes mask code) ⇒ e9
-    ∷ malformed (seriesOf d) ⇒ e5
-    ∷ tooMany (requests d) ⇒ x77
-    ∷ not (allOf (contained s) (take 1 (requests d))) ⇒ x33
-    ∷ listed s (keyWord d) ⇒ e1
-    ∷ eqb (listLength s) greatestList ⇒ e8
-    ∷ noRoom rooms (afterRegister s (keyWord d) (addressWord d) (requests d)) ⇒ e7
-    ∷ []
-    then change (registered (tests s (take 1 (requests d)))) (afterRegister s (keyWord d) (addressWord d) (requests d))
+    take 7 (registerRow rooms s d code mask)
+    ++ (not (allOf (contained s) (take 1 (requests d))) ⇒ x33 ∷ drop 8 (registerRow rooms s d code mask))
+    then registerEffect s d (tests s (take 1 (requests d)))
 
 unfoldable pub copyCall : (table message code mask : Bytes) → Outcome
 copyCall t m code mask =
     elim (eqb (typeOf m) (number register)) [
       | true ↦
           outcome t (
-          wrongBytes wordBytes mask ⇒ ed
-          ∷ not (soundTable t) ⇒ ef
-          ∷ ltb greatestMessage (length m) ⇒ ea
-          ∷ []
+          systemRow t m mask ++ take 3 (namedRow (room t) (store t) (dataOf m) code mask (ofKind register))
           then copyRegister (room t) (store t) (dataOf m) code mask)
       | false ↦ systemCall t m code mask
     ]

@@ -3,11 +3,11 @@
 use mathlib.Core.Path.{_≡_, refl, ap, _∙_}
 use mathlib.Core.List.{List}
 use Rattle.rules.specs.Words.{Bytes, num}
-use Rattle.rules.specs.Table.{room, store}
+use Rattle.rules.specs.Table.{store}
 use Rattle.rules.specs.Capabilities.{Kind, call, register, delete, setEntry, write}
 use Rattle.rules.specs.Messages.{Named, null, unknown, ofKind, named, typeOf, dataOf}
-use Rattle.rules.specs.Answers.{Refusal, aa, refusals, codeNumber, codeBytes, Answer, refused, fields, Result, Check, judge, Outcome, outcome}
-use Rattle.rules.specs.Calls.{setUp, turn, look, systemCall, doKind, doNamed, doCall, doRegister, doDelete, doSetEntry, doWrite}
+use Rattle.rules.specs.Answers.{Refusal, refusals, codeNumber, codeBytes, Answer, refused, fields, Result, Check, judge, Outcome, outcome}
+use Rattle.rules.specs.Calls.{setUp, turn, look, kindEffect, namedEffect, systemCall}
 use Rattle.rules.specs.Demands.{AnyCall, settingUp, turning, looking, calling, perform, Demand1, Demand2, Demand3}
 use Rattle.rules.specs.Source.{OwnPayload}
 use Rattle.rules.proofs.Source.{code-bytes-back}
@@ -54,19 +54,19 @@ module _ (t m code mask : Bytes) where
   abbrev asked : AnyCall
   asked = calling m code mask
 
-  kind-known : (kind : Kind) → named (typeOf m) ≡ ofKind kind → Known asked (outcome t (doKind (room t) (store t) (dataOf m) code mask kind) .answer)
-  unfolding Known answerTo successTo successOfType fields outcome doKind doCall doRegister doDelete doSetEntry doWrite
-  kind-known call e = row-known asked t _ _ (rw e)
-  kind-known register e = row-known asked t _ _ (rw e)
-  kind-known delete e = row-known asked t _ _ (rw e)
-  kind-known setEntry e = row-known asked t _ _ (rw e)
-  kind-known write e = row-known asked t _ _ (rw e)
+  kind-known : (kind : Kind) → named (typeOf m) ≡ ofKind kind → Known asked (outcome t (kindEffect (store t) (dataOf m) kind) .answer)
+  unfolding Known answerTo successTo successOfType fields outcome
+  kind-known call e = rw e
+  kind-known register e = rw e
+  kind-known delete e = rw e
+  kind-known setEntry e = rw e
+  kind-known write e = rw e
 
-  named-known : (n : Named) → named (typeOf m) ≡ n → Known asked (outcome t (doNamed (room t) (store t) (dataOf m) code mask n) .answer)
-  unfolding Known answerTo successTo successOfType fields outcome doNamed
-  named-known null e = row-known asked t _ _ (rw e)
-  named-known unknown e = refused-known asked aa
-  named-known (ofKind kind) e = row-known asked t _ _ (kind-known kind e)
+  named-known : (n : Named) → named (typeOf m) ≡ n → Known asked (outcome t (namedEffect (store t) (dataOf m) n) .answer)
+  unfolding Known answerTo successTo successOfType fields outcome
+  named-known null e = rw e
+  named-known unknown e = rw e
+  named-known (ofKind kind) e = kind-known kind e
 
   call-known : Known asked (systemCall t m code mask .answer)
   unfolding systemCall

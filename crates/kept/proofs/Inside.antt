@@ -1,7 +1,7 @@
 -- A host may take the payload out of its message as the struct says: it ends within the message. A Call with fewer than 64 bytes
 -- of data is refused, so the place is within the message, and the payload is the rest from there on.
 use Prim.Native.Nat.{_+_, _≤_}
-use mathlib.Core.List.{List}
+use mathlib.Core.List.{List, _++_}
 use lib.Dec.{ltb}
 use lib.ListN.{length, drop, length-drop}
 use native.Mathlib.Omega.{arith}
@@ -11,8 +11,8 @@ use Rattle.rules.specs.Table.{room, store}
 use Rattle.rules.specs.Capabilities.{Kind, call, register, delete, setEntry, write}
 use Rattle.rules.specs.Messages.{Named, null, unknown, ofKind, named, typeOf, dataOf, payloadOf, minimum}
 use Rattle.rules.specs.Answers.{e0, fields, Result, Check, _⇒_, judge, outcome}
-use Rattle.rules.specs.Calls.{systemCall, doKind, doNamed, doCall, doRegister, doDelete, doSetEntry, doWrite}
-use Rattle.laws.proofs.Rows.{judge-cases, member}
+use Rattle.rules.specs.Calls.{kindEffect, namedRow, namedEffect, systemRow, systemCall}
+use Rattle.laws.proofs.Rows.{Passes, judge-cases, member}
 use Rattle.replies.specs.declared.Reply.{Reply}
 use Rattle.replies.specs.Exports.{placeOf, exported, Exports}
 
@@ -21,27 +21,26 @@ module _ (t m : Bytes) where
   Inside r = placeOf (outcome t r .answer) + length (fields (outcome t r .answer) .payload) ≤ length m
 
   -- a refusal has no payload, so of a row of checks its result decides
-  row-inside : (cs : List Check) (r : Result) → Inside r → Inside (judge cs r)
+  row-inside : (cs : List Check) (r : Result) → (Passes cs → Inside r) → Inside (judge cs r)
   unfolding Inside outcome placeOf fields
-  row-inside cs r h = judge-cases Inside cs r (λ c i e. omega arith) (λ ps. h)
+  row-inside cs r h = judge-cases Inside cs r (λ c i e. omega arith) h
 
-  kind-inside : (code mask : Bytes) (kind : Kind) → minimum kind ≤ length (dataOf m) → Inside (doKind (room t) (store t) (dataOf m) code mask kind)
-  unfolding Inside outcome placeOf fields minimum dataOf payloadOf doKind doCall doRegister doDelete doSetEntry doWrite
-  kind-inside code mask call h = row-inside _ _ (omega (arith, h, length-drop 64 (drop 1 m), length-drop 1 m))
-  kind-inside code mask register h = row-inside _ _ (omega arith)
-  kind-inside code mask delete h = row-inside _ _ (omega arith)
-  kind-inside code mask setEntry h = row-inside _ _ (omega arith)
-  kind-inside code mask write h = row-inside _ _ (omega arith)
+  kind-inside : (kind : Kind) → minimum kind ≤ length (dataOf m) → Inside (kindEffect (store t) (dataOf m) kind)
+  unfolding Inside outcome placeOf fields minimum dataOf payloadOf
+  kind-inside call h = omega (arith, h, length-drop 64 (drop 1 m), length-drop 1 m)
+  kind-inside register h = omega arith
+  kind-inside delete h = omega arith
+  kind-inside setEntry h = omega arith
+  kind-inside write h = omega arith
 
-  named-inside : (code mask : Bytes) (n : Named) → Inside (doNamed (room t) (store t) (dataOf m) code mask n)
-  unfolding Inside outcome placeOf fields doNamed
-  named-inside code mask null = row-inside _ _ (omega arith)
-  named-inside code mask unknown = omega arith
-  named-inside code mask (ofKind kind) =
-      judge-cases Inside _ _ (λ c i e. omega arith)
-      (λ ps.
-      kind-inside code mask kind
-      (ltb-false (length (dataOf m)) (minimum kind) (ps (ltb (length (dataOf m)) (minimum kind) ⇒ e0) (search member depth 12))))
+  named-inside : (code mask : Bytes) (n : Named) → Passes (systemRow t m mask ++ namedRow (room t) (store t) (dataOf m) code mask n)
+      → Inside (namedEffect (store t) (dataOf m) n)
+  unfolding Inside outcome placeOf fields systemRow namedRow
+  named-inside code mask null ps = omega arith
+  named-inside code mask unknown ps = omega arith
+  named-inside code mask (ofKind kind) ps =
+      kind-inside kind
+      (ltb-false (length (dataOf m)) (minimum kind) (ps (ltb (length (dataOf m)) (minimum kind) ⇒ e0) (search member depth 12)))
 
 pub payload-inside : {r : Reply} {after : Bytes} (t m code mask : Bytes) → Exports (systemCall t m code mask) r after
     → r .«payload_at» + r .«payload_len» ≤ length m

@@ -7,7 +7,7 @@ use borrow.Author.Tests.{eq-eqb, ne-eqb, le-leb, lt-leb}
 use Rattle.rules.specs.Words.{Bytes, keyBytes, addressBytes}
 use Rattle.rules.specs.Table.{recordSize, greatestTable, lengthFits}
 use Rattle.rules.specs.Answers.{ed, ef, codeNumber, outcome}
-use Rattle.rules.specs.Calls.{setUp}
+use Rattle.rules.specs.Calls.{setUpRow, setUp}
 use Rattle.rules.specs.Source.{refusedReply}
 use Rattle.rules.specs.declared.Reply.{Reply}
 use Rattle.results.specs.Results.{Gives}
@@ -17,24 +17,24 @@ use Rattle.kernel.proofs.FirstChecks.{wrong-bytes, right-bytes}
 
 module _ (t k a ka : Bytes) where
   pub key-wrong : (length k ≡ keyBytes → ⊥) → {r : Reply} → r ≡ refusedReply (codeNumber ed) → Gives (setUp t k a ka) r t
-  unfolding setUp
+  unfolding setUp setUpRow
   key-wrong h f = rw (refuses (wrong-bytes keyBytes k h)) (refusal t ed f)
 
   module _ (key : length k ≡ keyBytes) where
     pub address-wrong : (length a ≡ addressBytes → ⊥) → {r : Reply} → r ≡ refusedReply (codeNumber ed) → Gives (setUp t k a ka) r t
-    unfolding setUp
+    unfolding setUp setUpRow
     address-wrong h f = rw (passes (right-bytes keyBytes k key), refuses (wrong-bytes addressBytes a h)) (refusal t ed f)
 
     module _ (address : length a ≡ addressBytes) where
       pub kernel-wrong : (length ka ≡ addressBytes → ⊥) → {r : Reply} → r ≡ refusedReply (codeNumber ed) → Gives (setUp t k a ka) r t
-      unfolding setUp
+      unfolding setUp setUpRow
       kernel-wrong h f =
           rw (passes (right-bytes keyBytes k key), passes (right-bytes addressBytes a address), refuses (wrong-bytes addressBytes ka h))
           (refusal t ed f)
 
       module _ (kernel : length ka ≡ addressBytes) where
         misfit : lengthFits t ≡ false → {r : Reply} → r ≡ refusedReply (codeNumber ef) → Gives (setUp t k a ka) r t
-        unfolding setUp
+        unfolding setUp setUpRow
         misfit h f =
             rw (
               passes (right-bytes keyBytes k key),
@@ -63,7 +63,7 @@ module _ (t k a ka : Bytes) where
                 }
 
             pub sizes-right : {r : Reply} {t′ : Bytes} → Gives (outcome t (setUpOnSizes t k a ka)) r t′ → Gives (setUp t k a ka) r t′
-            unfolding setUp setUpOnSizes
+            unfolding setUp setUpRow
             sizes-right g =
                 rw (
                   passes (right-bytes keyBytes k key),

@@ -5,7 +5,7 @@ use lib.ListN.{length}
 use Rattle.rules.specs.Words.{Bytes, keyBytes}
 use Rattle.rules.specs.Sound.{soundTable}
 use Rattle.rules.specs.Answers.{ed, ef, codeNumber, outcome}
-use Rattle.rules.specs.Calls.{turn}
+use Rattle.rules.specs.Calls.{turnRow, turn}
 use Rattle.rules.specs.Source.{refusedReply}
 use Rattle.rules.specs.declared.Reply.{Reply}
 use Rattle.results.specs.Results.{Gives}
@@ -15,14 +15,14 @@ use Rattle.kernel.proofs.FirstChecks.{wrong-bytes, right-bytes}
 
 module _ (t k : Bytes) where
   pub turn-wrong : (length k ≡ keyBytes → ⊥) → {r : Reply} → r ≡ refusedReply (codeNumber ed) → Gives (turn t k) r t
-  unfolding turn
+  unfolding turn turnRow
   turn-wrong h f = rw (refuses (wrong-bytes keyBytes k h)) (refusal t ed f)
 
   module _ (size : length k ≡ keyBytes) where
     pub turn-unsound : not (soundTable t) ≡ true → {r : Reply} → r ≡ refusedReply (codeNumber ef) → Gives (turn t k) r t
-    unfolding turn
+    unfolding turn turnRow
     turn-unsound q f = rw (passes (right-bytes keyBytes k size), refuses q) (refusal t ef f)
 
     pub turn-sound : not (soundTable t) ≡ false → {r : Reply} {t′ : Bytes} → Gives (outcome t (turnOnSound t k)) r t′ → Gives (turn t k) r t′
-    unfolding turn turnOnSound
+    unfolding turn turnRow
     turn-sound q g = rw (passes (right-bytes keyBytes k size), passes q) g

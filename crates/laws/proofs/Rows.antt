@@ -2,8 +2,8 @@
 -- `judge-cases` splits a row's result: a check of the row fails and its code is answered, or the row passes and its result is.
 -- In a passed row `ps (listed s p ⇒ e1) (search member depth 12)` shows `listed s p ≡ false`,
 -- and `passed-not (ps (not (soundTable t) ⇒ ef) (search member depth 12))` shows `soundTable t ≡ true`.
-use mathlib.Core.Path.{_≡_, refl, sym}
-use mathlib.Core.List.{List, [], _∷_}
+use mathlib.Core.Path.{_≡_, refl, sym, ap}
+use mathlib.Core.List.{List, [], _∷_, _++_}
 use mathlib.Core.Bool.{Bool, true, false, not}
 use Rattle.rules.specs.Answers.{Check, Result, refuse, judge}
 
@@ -39,3 +39,9 @@ judge-cases P (c ∷ cs) r refused passed = go (c .fails) refl (judge-cases P cs
     go : (b : Bool) → c .fails ≡ b → ((Passes cs → P r) → P (judge cs r)) → P (elim b [ true ↦ refuse (c .code) | false ↦ judge cs r ])
     go true e rest = refused c here e
     go false e rest = rest (λ ps. passed (passes-more e ps))
+
+-- a row in two parts: the second is judged where the first passes
+pub judge-append : (cs ds : List Check) (r : Result) → judge (cs ++ ds) r ≡ judge cs (judge ds r)
+unfolding judge
+judge-append [] ds r = refl
+judge-append (c ∷ cs) ds r = ap (λ (rest : Result). elim (c .fails) [ true ↦ refuse (c .code) | false ↦ rest ]) (judge-append cs ds r)

@@ -1,14 +1,11 @@
 -- Set-up looks only at the table's length: so every table of full size becomes the one that the rules name.
-use Prim.Native.Nat.{ℕ, _/_, _%_}
-use mathlib.Core.Path.{_≡_, refl, sym, ap, _∙_}
-use mathlib.Core.List.{[], _∷_}
-use mathlib.Core.Bool.{not, _&&_}
-use lib.Dec.{eqb, leb}
+use Prim.Native.Nat.{ℕ}
+use mathlib.Core.Path.{_≡_, sym, ap, _∙_}
 use lib.ListN.{length, replicate, length-replicate}
 use Rattle.rules.specs.Words.{Bytes, keyBytes, addressBytes, bytesOf, num}
-use Rattle.rules.specs.Table.{recordSize, greatestTable, room, lengthFits, Store, bytes}
-use Rattle.rules.specs.Answers.{ef, e4, e7, ed, done, Result, change, outcome, _⇒_, _then_}
-use Rattle.rules.specs.Calls.{setUp, fresh, isZero, noRoom, wrongBytes}
+use Rattle.rules.specs.Table.{greatestTable, Store, bytes}
+use Rattle.rules.specs.Answers.{done, Result, change, outcome, _then_}
+use Rattle.rules.specs.Calls.{setUpRow, setUp, fresh}
 use Rattle.rules.proofs.Computing.{computing}
 use Rattle.rules.specs.Program.{programTable}
 
@@ -21,32 +18,17 @@ address = bytesOf addressBytes 0x11
 abbrev kernelAddress : Bytes
 kernelAddress = bytesOf addressBytes 0x22
 
--- set-up's row for a table of n bytes
-row : (n : ℕ) → Result
-row n =
-    wrongBytes keyBytes key ⇒ ed
-    ∷ wrongBytes addressBytes address ⇒ ed
-    ∷ wrongBytes addressBytes kernelAddress ⇒ ed
-    ∷ not (eqb (n % recordSize) 0 && leb n greatestTable) ⇒ ef
-    ∷ isZero (num key) ⇒ e4
-    ∷ isZero (num address) ⇒ e4
-    ∷ isZero (num kernelAddress) ⇒ e4
-    ∷ noRoom (n / recordSize) (fresh (num key) (num address) (num kernelAddress)) ⇒ e7
-    ∷ []
-    then change done (fresh (num key) (num address) (num kernelAddress))
-
 abbrev made : Store
 made = fresh (num key) (num address) (num kernelAddress)
 
 -- a full-size table has room for the 13 records
-row-is : row greatestTable ≡ change done made
-unfolding computing row
-row-is = refl
+row-passes : (t : Bytes) → length t ≡ greatestTable → (setUpRow t key address kernelAddress then change done made) ≡ change done made
+unfolding computing
+row-passes t e = rw e
 
 full-size : (t : Bytes) → length t ≡ greatestTable → setUp t key address kernelAddress .table ≡ bytes greatestTable made
-unfolding setUp row outcome lengthFits room
-full-size t e =
-    ap (λ (n : ℕ). outcome t (row n) .table) e ∙ ap (λ (r : Result). outcome t r .table) row-is ∙ ap (λ (n : ℕ). bytes n made) e
+unfolding setUp outcome
+full-size t e = ap (λ (r : Result). outcome t r .table) (row-passes t e) ∙ ap (λ (n : ℕ). bytes n made) e
 
 pub first-table : (t : Bytes) → length t ≡ greatestTable → setUp t key address kernelAddress .table ≡ programTable
 unfolding programTable

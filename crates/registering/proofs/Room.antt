@@ -14,7 +14,7 @@ use Rattle.rules.specs.Procedures.{listed}
 use Rattle.rules.specs.Sound.{IsKey, IsAddress}
 use Rattle.rules.specs.Messages.{keyTooLong, addressTooLong, keyWord, addressWord, requests}
 use Rattle.rules.specs.Answers.{e7, codeNumber, registered, outcome}
-use Rattle.rules.specs.Calls.{noRoom, kindRecords, afterRegister}
+use Rattle.rules.specs.Calls.{noRoom, kindRecords, afterRegister, registerRow}
 use Rattle.rules.specs.Source.{refusedReply, replyOf}
 use Rattle.rules.specs.declared.Reply.{Reply}
 use Rattle.laws.proofs.TableDecides.{soundTable-good}
@@ -78,7 +78,7 @@ module _ {t : Bytes} {used : ℕ} (g : SoundWith t used) {places : ℕ} (d : Byt
 
     pub register-no-room : length t / recordSize < used + 3 + n → (m : ℕ) {r : Reply} → r ≡ refusedReply (codeNumber e7)
         → Gives (outcome t (onRoom (room t) (store t) d m)) r t
-    unfolding onRoom noRoom room
+    unfolding registerRow noRoom room
     register-no-room h m f =
         let full : ltb (length t / recordSize) (length after) ≡ true = lt-ltb (length t / recordSize) (length after) (omega (arith, needed, h)) in
         rw (refuses full) (refusal t e7 f)
@@ -108,7 +108,7 @@ module _ {t : Bytes} {used : ℕ} (g : SoundWith t used) {places : ℕ} (d : Byt
       pub register-done : {key address : Bytes} → Holds keyBytes key (keyWord d) → Holds wordBytes address (addressWord d)
           → {t′ : Bytes} {used′ : ℕ} → Stored (length t) t′ used′ (afterRegister (store t) (num key) (num address) (requests d))
           → (m : ℕ) {r : Reply} → r ≡ replyOf (registered m) → Gives (outcome t (onRoom (room t) (store t) d m)) r t′
-      unfolding onRoom noRoom room
+      unfolding registerRow noRoom room
       register-done k v s m f =
           let space : ltb (length t / recordSize) (length after) ≡ false = le-ltb (length t / recordSize) (length after) (omega (arith, needed, h)) in
           rw (passes space, ends) (changes t _ _ f (rw (k .number, v .number) at (s .table)))

@@ -1,17 +1,15 @@
 -- What the parts of Register's row ask, and what is left of the row at each.
 use Prim.Native.Nat.{ℕ, _*_, _≤_}
 use mathlib.Core.Path.{_≡_}
-use mathlib.Core.List.{[], _∷_}
-use mathlib.Core.Bool.{false, not}
-use lib.Dec.{eqb}
-use lib.ListN.{length}
+use mathlib.Core.List.{[]}
+use mathlib.Core.Bool.{false}
+use lib.ListN.{length, drop}
 use Rattle.rules.specs.Words.{Bytes, wordBytes}
 use Rattle.rules.specs.Table.{Store, store}
 use Rattle.rules.specs.Procedures.{listLength, listed}
-use Rattle.rules.specs.Sound.{allOf}
 use Rattle.rules.specs.Messages.{greatestMessage, seriesAt, keyTooLong, addressTooLong, keyWord, addressWord, requests}
-use Rattle.rules.specs.Answers.{x77, x33, e1, e8, e7, registered, Result, change, _⇒_, _then_}
-use Rattle.rules.specs.Calls.{noRoom, greatestList, afterRegister, contained, tests, tooMany}
+use Rattle.rules.specs.Answers.{Result, _then_}
+use Rattle.rules.specs.Calls.{greatestList, tests, tooMany, registerRow, registerEffect}
 use Rattle.requests.specs.Requests.{WellFormedFrom}
 
 -- data with an index, a key word and an address word, which have no leading bytes
@@ -36,19 +34,9 @@ pub record Appendable (t : Bytes) (places : ℕ) (d : Bytes) : Type 0 where
   pub short : places ≤ greatestList
   pub unlisted : listed (store t) (keyWord d) ≡ false
 
--- the row from the room on, and from the requests on
-unfoldable pub onRoom : (rooms : ℕ) → Store → (d : Bytes) → (tests : ℕ) → Result
-onRoom rooms s d n =
-    noRoom rooms (afterRegister s (keyWord d) (addressWord d) (requests d)) ⇒ e7
-    ∷ []
-    then change (registered n) (afterRegister s (keyWord d) (addressWord d) (requests d))
+-- Register's row from the requests on, and from the room on. Code and mask are judged before, so any stand for them here.
+abbrev pub onRequests : (rooms : ℕ) → Store → (d : Bytes) → Result
+onRequests rooms s d = drop 6 (registerRow rooms s d [] []) then registerEffect s d (tests s (requests d))
 
-unfoldable pub onRequests : (rooms : ℕ) → Store → (d : Bytes) → Result
-onRequests rooms s d =
-    tooMany (requests d) ⇒ x77
-    ∷ not (allOf (contained s) (requests d)) ⇒ x33
-    ∷ listed s (keyWord d) ⇒ e1
-    ∷ eqb (listLength s) greatestList ⇒ e8
-    ∷ noRoom rooms (afterRegister s (keyWord d) (addressWord d) (requests d)) ⇒ e7
-    ∷ []
-    then change (registered (tests s (requests d))) (afterRegister s (keyWord d) (addressWord d) (requests d))
+abbrev pub onRoom : (rooms : ℕ) → Store → (d : Bytes) → (tests : ℕ) → Result
+onRoom rooms s d n = drop 10 (registerRow rooms s d [] []) then registerEffect s d n

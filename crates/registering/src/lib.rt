@@ -7,8 +7,9 @@ ghost use mathlib.Core.Path.{_≡_};
 ghost use lib.ListN.{length};
 ghost use Rattle.rules.specs.Words.{wordBytes};
 ghost use Rattle.rules.specs.Table.{room, store};
-ghost use Rattle.rules.specs.Answers.{outcome};
-ghost use Rattle.rules.specs.Calls.{doRegister};
+ghost use Rattle.rules.specs.Messages.{requests};
+ghost use Rattle.rules.specs.Answers.{_then_, outcome};
+ghost use Rattle.rules.specs.Calls.{tests, registerRow, registerEffect};
 ghost use Rattle.results.specs.Results.{SoundWith, Gives};
 ghost use Rattle.registering.specs.Registering.{NamesProcedure, Appendable, Judgeable, onRoom, onRequests};
 
@@ -64,7 +65,7 @@ pub fn register(t: &mut [u8], used: usize, d: &[u8], code: &[u8], mask: &[u8]) -
     requires { ⌜ SoundWith (now t) used ⌝ }
     requires { ⌜ NamesProcedure (now d) ⌝ }
     requires { ⌜ length (now mask) ≡ wordBytes ⌝ }
-    ensures { λ r. ⌜ Gives (outcome (now (t .entry)) (doRegister (room (now (t .entry))) (store (now (t .entry))) (now (d .entry)) (now (code .entry)) (now (mask .entry)))) r (now (t .exit)) ⌝ }
+    ensures { λ r. ⌜ Gives (outcome (now (t .entry)) (registerRow (room (now (t .entry))) (store (now (t .entry))) (now (d .entry)) (now (code .entry)) (now (mask .entry)) then registerEffect (store (now (t .entry))) (now (d .entry)) (tests (store (now (t .entry))) (requests (now (d .entry)))))) r (now (t .exit)) ⌝ }
 {
     let key = messages::key_word(d);
     if words::is_zero(key) {

@@ -10,7 +10,7 @@ use Rattle.rules.specs.Sound.{allOf, anyOf, allPlaces, isKey, isAddress,
 use Rattle.rules.specs.Messages.{typeOf, dataOf, kindOrUnknown, named, minimum, openEnded, overlong, indexWord, keyWord, addressWord, writeAddress, writeValue, payloadOf, keyTooLong, addressTooLong, leadingBytes, requestOf, requestAt, addRequest, seriesFrom, series, seriesOf, malformed, orEmpty, requests, sameKind, requestedOf}
 use Rattle.rules.specs.Validation.{allowed, dataBytes, walk, passes}
 use Rattle.rules.specs.Answers.{codeNumber, codeBytes, fields, judge, outcome}
-use Rattle.rules.specs.Calls.{wrongBytes, isZero, noRoom, wordRecords, capabilityRecords, kindRecords, afterRegister, firstCapabilities, fixedRecords, fresh, setUp, turn, look, indexOutOfRange, chosen, notCovering, doCall, doSetEntry, ofProcedure, withoutProcedure, afterDelete, doDelete, doWrite, contained, testsIn, tests, tooMany, doRegister, doKind, doNamed, systemCall}
+use Rattle.rules.specs.Calls.{wrongBytes, isZero, noRoom, wordRecords, capabilityRecords, kindRecords, afterRegister, firstCapabilities, fixedRecords, fresh, setUpRow, setUp, turnRow, turn, lookRow, look, indexOutOfRange, chosen, notCovering, callRow, setEntryRow, ofProcedure, withoutProcedure, afterDelete, deleteRow, writeRow, contained, testsIn, tests, tooMany, registerRow, kindRow, namedRow, systemRow, systemCall}
 use Rattle.rules.specs.Program.{lastLine, linesFrom, lines, digitOf, byteBefore, digits, messageOf, hexDigit, hex, decimalBefore, decimal, spaced, printed, programTable, programCode, programMask, answersFrom, program}
 use Rattle.rules.specs.Demands.{perform, succeeds, registrar, tableAfter, registers, lastRegistered}
 
@@ -51,7 +51,7 @@ unfolding codeNumber codeBytes fields judge outcome
 computing-answers = tt
 
 unfoldable computing-calls : Unit {0}
-unfolding wrongBytes isZero noRoom wordRecords capabilityRecords kindRecords afterRegister firstCapabilities fixedRecords fresh setUp turn look indexOutOfRange chosen notCovering doCall doSetEntry ofProcedure withoutProcedure afterDelete doDelete doWrite contained testsIn tests tooMany doRegister doKind doNamed systemCall
+unfolding wrongBytes isZero noRoom wordRecords capabilityRecords kindRecords afterRegister firstCapabilities fixedRecords fresh setUpRow setUp turnRow turn lookRow look indexOutOfRange chosen notCovering callRow setEntryRow ofProcedure withoutProcedure afterDelete deleteRow writeRow contained testsIn tests tooMany registerRow kindRow namedRow systemRow systemCall
 computing-calls = tt
 
 unfoldable computing-program : Unit {0}

@@ -1,6 +1,6 @@
 -- The calls. "Built: set-up, Turn (the host names the running procedure), Look (read one slot), and the system calls Null, Call,
--- Register, Delete, Set Entry and Write, with code validation at registration." Each is its printed row of checks, and then its
--- effect. "Not built: running EVM code, gas, Log (8) and Gas Send (9)."
+-- Register, Delete, Set Entry and Write, with code validation at registration." Each is its printed row of checks, a list with a
+-- name, and then its effect. "Not built: running EVM code, gas, Log (8) and Gas Send (9)."
 use Prim.Native.Nat.{ℕ, suc, _+_, _/_, _^_, _-_}
 use mathlib.Core.List.{List, [], _∷_, _++_}
 use mathlib.Core.Bool.{Bool, true, false, not}
@@ -14,7 +14,7 @@ use Rattle.rules.specs.Procedures.{listLength, keyAt, addressOf, indexOf
 use Rattle.rules.specs.Sound.{greatestCount, soundTable, allOf, anyOf}
 use Rattle.rules.specs.Messages.{greatestMessage, typeOf, dataOf, Named, null, unknown, ofKind, named, minimum, overlong, indexWord, keyWord, addressWord, writeAddress, writeValue, payloadOf, leadingBytes, Request, seriesOf, malformed, requests, requestedOf}
 use Rattle.rules.specs.Validation.{passes}
-use Rattle.rules.specs.Answers.{ed, ef, e0, ea, aa, eb, e6, e4, x33, e9, e5, x77, e1, e2, e3, x6633, e8, e7, done, called, registered, looked, Result, refuse, answer, change, _⇒_, _then_, Outcome, outcome}
+use Rattle.rules.specs.Answers.{ed, ef, e0, ea, aa, eb, e6, e4, x33, e9, e5, x77, e1, e2, e3, x6633, e8, e7, done, called, registered, looked, Result, answer, change, Check, _⇒_, _then_, Outcome, outcome}
 
 -- 66 ed: "a key, address, slot key or mask of the wrong number of bytes"
 unfoldable pub wrongBytes : ℕ → Bytes → Bool
@@ -76,9 +76,8 @@ unfoldable pub fresh : (key address kernelAddress : ℕ) → Store
 fresh k a ka = afterRegister (fixedRecords k ka) k a firstCapabilities
 
 -- "Set-up: ef, e4, e7." Of a set-up, 66 ef is "table length wrong". "ed comes first everywhere".
-unfoldable pub setUp : (table key address kernelAddress : Bytes) → Outcome
-setUp t k a ka =
-    outcome t (
+unfoldable pub setUpRow : (table key address kernelAddress : Bytes) → List Check
+setUpRow t k a ka =
     wrongBytes keyBytes k ⇒ ed
     ∷ wrongBytes addressBytes a ⇒ ed
     ∷ wrongBytes addressBytes ka ⇒ ed
@@ -88,26 +87,39 @@ setUp t k a ka =
     ∷ isZero (num ka) ⇒ e4
     ∷ noRoom (room t) (fresh (num k) (num a) (num ka)) ⇒ e7
     ∷ []
-    then change done (fresh (num k) (num a) (num ka)))
+
+abbrev pub setUpEffect : (key address kernelAddress : Bytes) → Result
+setUpEffect k a ka = change done (fresh (num k) (num a) (num ka))
+
+unfoldable pub setUp : (table key address kernelAddress : Bytes) → Outcome
+setUp t k a ka = outcome t (setUpRow t k a ka then setUpEffect k a ka)
 
 -- Turn "(the host names the running procedure)". "Turn: ef, 66 33."
-unfoldable pub turn : (table key : Bytes) → Outcome
-turn t k =
-    outcome t (
+unfoldable pub turnRow : (table key : Bytes) → List Check
+turnRow t k =
     wrongBytes keyBytes k ⇒ ed
     ∷ not (soundTable t) ⇒ ef
     ∷ not (listed (store t) (num k)) ⇒ x6633
     ∷ []
-    then change done (put (store t) currentSlot (num k)))
+
+abbrev pub turnEffect : (table key : Bytes) → Result
+turnEffect t k = change done (put (store t) currentSlot (num k))
+
+unfoldable pub turn : (table key : Bytes) → Outcome
+turn t k = outcome t (turnRow t k then turnEffect t k)
 
 -- Look "(read one slot)". "Look: ef."
-unfoldable pub look : (table slotKey : Bytes) → Outcome
-look t k =
-    outcome t (
+unfoldable pub lookRow : (table slotKey : Bytes) → List Check
+lookRow t k =
     wrongBytes wordBytes k ⇒ ed
     ∷ not (soundTable t) ⇒ ef
     ∷ []
-    then answer (looked (word (get (store t) (num k)))))
+
+abbrev pub lookEffect : (table slotKey : Bytes) → Result
+lookEffect t k = answer (looked (word (get (store t) (num k))))
+
+unfoldable pub look : (table slotKey : Bytes) → Outcome
+look t k = outcome t (lookRow t k then lookEffect t k)
 
 -- The system calls, on the store s of a sound table; d is the message's data.
 -- "A capability index is a whole word counted from 0; it must be below the current procedure's count for that type."
@@ -121,22 +133,28 @@ chosen s d kind = capability s (current s) kind (suc (indexWord d))
 unfoldable pub notCovering : Store → (d : Bytes) → Kind → ℕ → Bool
 notCovering s d kind x = not (covers kind (chosen s d kind) x)
 
--- "Call 33, 66 33." "Call changes nothing."
-unfoldable pub doCall : Store → (d : Bytes) → Result
-doCall s d =
+-- "Call 33, 66 33."
+unfoldable pub callRow : Store → (d : Bytes) → List Check
+callRow s d =
     indexOutOfRange s d call ⇒ x33
     ∷ notCovering s d call (keyWord d) ⇒ x33
     ∷ not (listed s (keyWord d)) ⇒ x6633
     ∷ []
-    then answer (called (bytesOf addressBytes (addressOf s (keyWord d))) (payloadOf d))
 
--- "Set Entry 33, 66 33." "Set Entry changes only the entry slot."
-unfoldable pub doSetEntry : Store → (d : Bytes) → Result
-doSetEntry s d =
+-- "Call changes nothing."
+abbrev pub callEffect : Store → (d : Bytes) → Result
+callEffect s d = answer (called (bytesOf addressBytes (addressOf s (keyWord d))) (payloadOf d))
+
+-- "Set Entry 33, 66 33."
+unfoldable pub setEntryRow : Store → (d : Bytes) → List Check
+setEntryRow s d =
     indexOutOfRange s d setEntry ⇒ x33
     ∷ not (listed s (keyWord d)) ⇒ x6633
     ∷ []
-    then change done (put s entrySlot (keyWord d))
+
+-- "Set Entry changes only the entry slot."
+abbrev pub setEntryEffect : Store → (d : Bytes) → Result
+setEntryEffect s d = change done (put s entrySlot (keyWord d))
 
 -- a slot of region 00 whose middle is the procedure p
 unfoldable pub ofProcedure : (p k : ℕ) → Bool
@@ -159,25 +177,29 @@ afterDelete s p =
     ∷ []))
 
 -- "Delete 33, e2, 66 33, e3."
-unfoldable pub doDelete : Store → (d : Bytes) → Result
-doDelete s d =
+unfoldable pub deleteRow : Store → (d : Bytes) → List Check
+deleteRow s d =
     indexOutOfRange s d delete ⇒ x33
     ∷ notCovering s d delete (keyWord d) ⇒ x33
     ∷ eqb (keyWord d) (entryKey s) ⇒ e2
     ∷ not (listed s (keyWord d)) ⇒ x6633
     ∷ eqb (keyWord d) (current s) ⇒ e3
     ∷ []
-    then change done (afterDelete s (keyWord d))
+
+abbrev pub deleteEffect : Store → (d : Bytes) → Result
+deleteEffect s d = change done (afterDelete s (keyWord d))
 
 -- "Write 33, e7." 33 is also "a Write into kernel storage".
-unfoldable pub doWrite : (rooms : ℕ) → Store → (d : Bytes) → Result
-doWrite rooms s d =
+unfoldable pub writeRow : (rooms : ℕ) → Store → (d : Bytes) → List Check
+writeRow rooms s d =
     indexOutOfRange s d write ⇒ x33
     ∷ notCovering s d write (writeAddress d) ⇒ x33
     ∷ inKernelStorage (writeAddress d) ⇒ x33
     ∷ noRoom rooms (put s (writeAddress d) (writeValue d)) ⇒ e7
     ∷ []
-    then change done (put s (writeAddress d) (writeValue d))
+
+abbrev pub writeEffect : Store → (d : Bytes) → Result
+writeEffect s d = change done (put s (writeAddress d) (writeValue d))
 
 -- Register: a requested capability is judged by what the current procedure holds before the call.
 -- 33: "a requested capability within none held"; "Capabilities are not combined"
@@ -200,8 +222,8 @@ tooMany rs = anyOf (λ kind. ltb greatestCount (length (requestedOf kind rs))) k
 
 -- "Register e4, 33 (index, cover), e9, e5, 77, 33 (requested), e1, e8, e7."
 -- "Within the series, e5 is judged over the whole series first."
-unfoldable pub doRegister : (rooms : ℕ) → Store → (d code mask : Bytes) → Result
-doRegister rooms s d code mask =
+unfoldable pub registerRow : (rooms : ℕ) → Store → (d code mask : Bytes) → List Check
+registerRow rooms s d code mask =
     isZero (keyWord d) ⇒ e4
     ∷ isZero (addressWord d) ⇒ e4
     ∷ indexOutOfRange s d register ⇒ x33
@@ -214,38 +236,63 @@ doRegister rooms s d code mask =
     ∷ eqb (listLength s) greatestList ⇒ e8
     ∷ noRoom rooms (afterRegister s (keyWord d) (addressWord d) (requests d)) ⇒ e7
     ∷ []
-    then change (registered (tests s (requests d))) (afterRegister s (keyWord d) (addressWord d) (requests d))
 
+-- "Success reports the tests"
+abbrev pub registerEffect : Store → (d : Bytes) → (tests : ℕ) → Result
+registerEffect s d n = change (registered n) (afterRegister s (keyWord d) (addressWord d) (requests d))
+
+-- The row of a message's own type.
 -- "Every system call is given message, code and mask; only Register uses what the last two hold."
-unfoldable pub doKind : (rooms : ℕ) → Store → (d code mask : Bytes) → Kind → Result
-doKind rooms s d code mask call = doCall s d
-doKind rooms s d code mask register = doRegister rooms s d code mask
-doKind rooms s d code mask delete = doDelete s d
-doKind rooms s d code mask setEntry = doSetEntry s d
-doKind rooms s d code mask write = doWrite rooms s d
+unfoldable pub kindRow : (rooms : ℕ) → Store → (d code mask : Bytes) → Kind → List Check
+kindRow rooms s d code mask call = callRow s d
+kindRow rooms s d code mask register = registerRow rooms s d code mask
+kindRow rooms s d code mask delete = deleteRow s d
+kindRow rooms s d code mask setEntry = setEntryRow s d
+kindRow rooms s d code mask write = writeRow rooms s d
+
+abbrev pub kindEffect : Store → (d : Bytes) → Kind → Result
+kindEffect s d call = callEffect s d
+kindEffect s d register = registerEffect s d (tests s (requests d))
+kindEffect s d delete = deleteEffect s d
+kindEffect s d setEntry = setEntryEffect s d
+kindEffect s d write = writeEffect s d
+
+-- what is left of a system call at its type's own row
+abbrev pub doKind : (rooms : ℕ) → Store → (d code mask : Bytes) → Kind → Result
+doKind rooms s d code mask kind = kindRow rooms s d code mask kind then kindEffect s d kind
 
 -- "aa, then Null succeeds; short data; e6; then" the row of the message's own type; and, of document 02, No. 1:
 -- "66 eb, directly after short data and before 66 e6; for Null, where it would have succeeded." Null's format has no data.
-unfoldable pub doNamed : (rooms : ℕ) → Store → (d code mask : Bytes) → Named → Result
-doNamed rooms s d code mask null =
-    ltb 0 (length d) ⇒ eb
-    ∷ []
-    then answer done
-doNamed rooms s d code mask unknown = refuse aa
-doNamed rooms s d code mask (ofKind kind) =
+unfoldable pub namedRow : (rooms : ℕ) → Store → (d code mask : Bytes) → Named → List Check
+namedRow rooms s d code mask null = ltb 0 (length d) ⇒ eb ∷ []
+namedRow rooms s d code mask unknown = true ⇒ aa ∷ []
+namedRow rooms s d code mask (ofKind kind) =
     ltb (length d) (minimum kind) ⇒ e0
     ∷ overlong kind d ⇒ eb
     ∷ leadingBytes kind d ⇒ e6
-    ∷ []
-    then doKind rooms s d code mask kind
+    ∷ kindRow rooms s d code mask kind
+
+-- an unknown type is always refused, so the effect that stands for it here is never reached
+abbrev pub namedEffect : Store → (d : Bytes) → Named → Result
+namedEffect s d null = answer done
+namedEffect s d unknown = answer done
+namedEffect s d (ofKind kind) = kindEffect s d kind
+
+-- what is left of a system call at its message's type
+abbrev pub doNamed : (rooms : ℕ) → Store → (d code mask : Bytes) → Named → Result
+doNamed rooms s d code mask n = namedRow rooms s d code mask n then namedEffect s d n
 
 -- "System calls: ef, empty, ea, aa": "every system call judges the mask's length"
-unfoldable pub systemCall : (table message code mask : Bytes) → Outcome
-systemCall t m code mask =
-    outcome t (
+unfoldable pub systemRow : (table message mask : Bytes) → List Check
+systemRow t m mask =
     wrongBytes wordBytes mask ⇒ ed
     ∷ not (soundTable t) ⇒ ef
     ∷ eqb (length m) 0 ⇒ e0
     ∷ ltb greatestMessage (length m) ⇒ ea
     ∷ []
-    then doNamed (room t) (store t) (dataOf m) code mask (named (typeOf m)))
+
+unfoldable pub systemCall : (table message code mask : Bytes) → Outcome
+systemCall t m code mask =
+    outcome t (
+    systemRow t m mask ++ namedRow (room t) (store t) (dataOf m) code mask (named (typeOf m))
+    then namedEffect (store t) (dataOf m) (named (typeOf m)))

@@ -10,7 +10,7 @@ use Rattle.rules.specs.Words.{Bytes, AllBytes, keyBytes, addressBytes, num}
 use Rattle.rules.specs.Table.{bytes}
 use Rattle.rules.specs.Sound.{IsKey, IsAddress}
 use Rattle.rules.specs.Answers.{e4, e7, codeNumber, done, outcome}
-use Rattle.rules.specs.Calls.{isZero, fresh}
+use Rattle.rules.specs.Calls.{isZero, fresh, setUpRow}
 use Rattle.rules.specs.Source.{refusedReply, replyOf}
 use Rattle.rules.specs.declared.Reply.{Reply}
 use Rattle.laws.proofs.Fresh.{set-up-bytes}
@@ -27,7 +27,7 @@ module _ {t k a ka : Bytes} (z : RightSizes t k a ka) (kb : AllBytes k) (ab : Al
   zero-key q = sym e ∙ q
 
   pub key-zero : p ≡ true → {r : Reply} → r ≡ refusedReply (codeNumber e4) → Gives (outcome t (setUpOnSizes t k a ka)) r t
-  unfolding setUpOnSizes
+  unfolding setUpRow
   key-zero q f = rw (refuses (zero-key q)) (refusal t e4 f)
 
   module _ (key : p ≡ false) {i : Bool} (g : i ≡ eqb (num a) 0) where
@@ -36,7 +36,7 @@ module _ {t k a ka : Bytes} (z : RightSizes t k a ka) (kb : AllBytes k) (ab : Al
     zero-address q = sym g ∙ q
 
     pub address-zero : i ≡ true → {r : Reply} → r ≡ refusedReply (codeNumber e4) → Gives (outcome t (setUpOnSizes t k a ka)) r t
-    unfolding setUpOnSizes
+    unfolding setUpRow
     address-zero q f = rw (passes (zero-key key), refuses (zero-address q)) (refusal t e4 f)
 
     module _ (address : i ≡ false) {j : Bool} (h : j ≡ eqb (num ka) 0) where
@@ -45,7 +45,7 @@ module _ {t k a ka : Bytes} (z : RightSizes t k a ka) (kb : AllBytes k) (ab : Al
       zero-kernel q = sym h ∙ q
 
       pub kernel-zero : j ≡ true → {r : Reply} → r ≡ refusedReply (codeNumber e4) → Gives (outcome t (setUpOnSizes t k a ka)) r t
-      unfolding setUpOnSizes
+      unfolding setUpRow
       kernel-zero q f = rw (passes (zero-key key), passes (zero-address address), refuses (zero-kernel q)) (refusal t e4 f)
 
       module _ (kernel : j ≡ false) where
@@ -59,7 +59,7 @@ module _ {t k a ka : Bytes} (z : RightSizes t k a ka) (kb : AllBytes k) (ab : Al
         is-kernel = record { nonZero = non-zero (num ka) (sym h ∙ kernel); fits = num-fits addressBytes ka kab (z .kernelSize) }
 
         pub set-up-no-room : length t < firstRoom → {r : Reply} → r ≡ refusedReply (codeNumber e7) → Gives (outcome t (setUpOnSizes t k a ka)) r t
-        unfolding setUpOnSizes
+        unfolding setUpRow
         set-up-no-room l f =
             let full = set-up-bytes (num k) (num a) (num ka) is-key is-address is-kernel t ∙ lt-ltb (length t) firstRoom l in
             rw (passes (zero-key key), passes (zero-address address), passes (zero-kernel kernel), refuses full) (refusal t e7 f)
@@ -80,7 +80,7 @@ module _ {t k a ka : Bytes} (z : RightSizes t k a ka) (kb : AllBytes k) (ab : Al
 
           pub set-up-done : {t′ : Bytes} → t′ ≡ bytes (length t) (fresh (num k) (num a) (num ka))
               → {r : Reply} → r ≡ replyOf done → Gives (outcome t (setUpOnSizes t k a ka)) r t′
-          unfolding setUpOnSizes
+          unfolding setUpRow
           set-up-done q f =
               let space = set-up-bytes (num k) (num a) (num ka) is-key is-address is-kernel t ∙ le-ltb (length t) firstRoom l in
               rw (passes (zero-key key), passes (zero-address address), passes (zero-kernel kernel), passes space, ends) (changes t _ _ f q)

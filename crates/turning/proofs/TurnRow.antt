@@ -7,6 +7,7 @@ use Rattle.rules.specs.Table.{put, bytes, store}
 use Rattle.rules.specs.KernelStorage.{currentSlot}
 use Rattle.rules.specs.Procedures.{listed}
 use Rattle.rules.specs.Answers.{x6633, codeNumber, done, outcome}
+use Rattle.rules.specs.Calls.{turnRow}
 use Rattle.rules.specs.Source.{refusedReply, replyOf}
 use Rattle.rules.specs.declared.Reply.{Reply}
 use Rattle.results.specs.Results.{Gives}
@@ -18,10 +19,10 @@ module _ (t k : Bytes) {l : Bool} (e : l ≡ listed (store t) (num k)) where
   is-listed q = ap not (sym e ∙ q)
 
   pub turn-not-listed : l ≡ false → {r : Reply} → r ≡ refusedReply (codeNumber x6633) → Gives (outcome t (turnOnSound t k)) r t
-  unfolding turnOnSound
+  unfolding turnRow
   turn-not-listed q f = rw (refuses (is-listed q)) (refusal t x6633 f)
 
   pub turn-done : l ≡ true → {t′ : Bytes} → t′ ≡ bytes (length t) (put (store t) currentSlot (num k))
       → {r : Reply} → r ≡ replyOf done → Gives (outcome t (turnOnSound t k)) r t′
-  unfolding turnOnSound
+  unfolding turnRow
   turn-done q h f = rw (passes (is-listed q), ends) (changes t _ _ f h)

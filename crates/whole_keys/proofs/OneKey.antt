@@ -3,18 +3,17 @@
 use Prim.Native.Nat.{ℕ, _*_, _^_, _<_}
 use native.Mathlib.Omega.{arith}
 use native.Mathlib.Nat.{div-one, lt-trans}
-use mathlib.Core.Path.{_≡_, sym, ap, ap₂, subst, _∙_}
+use mathlib.Core.Path.{_≡_, sym, ap, ap₂, _∙_}
 use mathlib.Core.Logic.{_↔_}
-use mathlib.Core.List.{List}
 use mathlib.Core.Bool.{true, true≢false}
 use lib.Dec.{eqb, leb, lit<}
 use borrow.Author.Tests.{eqb-true, eq-eqb, leb-true, le-leb}
 use Rattle.rules.specs.Words.{keyBytes, Bytes}
-use Rattle.rules.specs.Table.{store, room}
+use Rattle.rules.specs.Table.{store}
 use Rattle.rules.specs.Capabilities.{delete, Capability, wordOf, prefix, base, firstBits, coversKey, withinPrefix, covers, within, greatestPrefix, prefixUpTo}
-use Rattle.rules.specs.Messages.{Named, ofKind, typeOf, dataOf, named, keyWord}
-use Rattle.rules.specs.Answers.{fields, Refusal, x33, Check, _⇒_, Result, refuse, judge, outcome}
-use Rattle.rules.specs.Calls.{chosen, notCovering, doDelete, doKind, doNamed, systemCall}
+use Rattle.rules.specs.Messages.{dataOf, named, keyWord}
+use Rattle.rules.specs.Answers.{fields, Refusal, x33, _⇒_, Result, refuse, outcome}
+use Rattle.rules.specs.Calls.{chosen, notCovering, deleteRow, kindRow, namedRow, systemRow, systemCall}
 use Rattle.rules.specs.Demands.{succeeds}
 use Rattle.rules.specs.Examples.{prefixOfKey}
 use Rattle.laws.proofs.Bools.{and-left, and-right}
@@ -77,8 +76,8 @@ pub stays-one-key : StaysOneKey
 unfolding within prefixUpTo
 stays-one-key = (same-right, (same-right, (same-right, tt)))
 
--- A Delete, from its own row to the whole call: a check that fails refuses, and one that has passed shows what is covered.
-module _ (t d : Bytes) (whole : ToOneKey (chosen (store t) d delete)) where
+-- A Delete: a check that fails refuses, and one that has passed shows what is covered.
+module _ (t d : Bytes) where
   abbrev OfItsBase : Result → Type 0
   OfItsBase r = succeeds (outcome t r) ≡ true → keyWord d ≡ base (chosen (store t) d delete)
 
@@ -86,24 +85,13 @@ module _ (t d : Bytes) (whole : ToOneKey (chosen (store t) d delete)) where
   unfolding succeeds outcome fields
   refused code q = absurd (true≢false (sym q))
 
-  row : (checks : List Check) (r : Result) → OfItsBase r → OfItsBase (judge checks r)
-  row checks r h = judge-cases OfItsBase checks r (λ c i e. refused (c .code)) (λ ps. h)
-
-  of-delete : OfItsBase (doDelete (store t) d)
-  unfolding doDelete notCovering covers
-  of-delete =
-      judge-cases OfItsBase _ _ (λ c i e. refused (c .code)) (λ ps success.
-      covers-its-base (chosen (store t) d delete) whole (keyWord d) .0
-      (passed-not (ps (notCovering (store t) d delete (keyWord d) ⇒ x33) (search member depth 12))))
-
 pub closes-one-key : ClosesOneKey
-unfolding systemCall doNamed doKind
+unfolding systemCall systemRow namedRow kindRow deleteRow notCovering covers
 closes-one-key t m code mask is whole =
-    row t d whole _ _ (subst (λ (n : Named). OfItsBase t d whole (doNamed (room t) (store t) d code mask n)) (sym of-type)
-    (row t d whole _ _ (of-delete t d whole)))
+    rw (ap named is ∙ named-number delete) (
+    judge-cases (OfItsBase t d) _ _ (λ c i e. refused t d (c .code)) (λ ps success.
+    covers-its-base (chosen (store t) d delete) whole (keyWord d) .0
+    (passed-not (ps (notCovering (store t) d delete (keyWord d) ⇒ x33) (search member depth 12)))))
   where
     d : Bytes
     d = dataOf m
-
-    of-type : named (typeOf m) ≡ ofKind delete
-    of-type = ap named is ∙ named-number delete

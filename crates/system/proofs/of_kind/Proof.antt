@@ -1,6 +1,6 @@
 -- Each type's row is carried out by its own function; where no other is left, the type is Write.
 use Rattle.rules.specs.Capabilities.{call, register, delete, setEntry, write, number}
-use Rattle.rules.specs.Calls.{doKind}
+use Rattle.rules.specs.Calls.{kindRow}
 use Rattle.system.proofs.OwnRow.{call-names, delete-names, set-entry-names, register-names, is-write, write-long, of-type}
 use borrow.Author.Needs.{needs}
 use Rattle.system.proofs.of_kind.Statement.{statement}
@@ -17,7 +17,7 @@ same-length : tie.Need-same-length
 same-length c = search needs
 
 returns : tie.Need-returns
-unfolding doKind number
+unfolding kindRow number
 returns c =
     let if1 = c .before .before in
     let start = if1 .before .before .before .before .before .before in
@@ -33,7 +33,7 @@ same-length-2 : tie.Need-same-length-2
 same-length-2 c = search needs
 
 returns-2 : tie.Need-returns-2
-unfolding doKind number
+unfolding kindRow number
 returns-2 c =
     let done = c .before .before in
     let start = done .before .before .before .before .before .before .before .before .before .before in
@@ -50,7 +50,7 @@ same-length-3 : tie.Need-same-length-3
 same-length-3 c = search needs
 
 returns-3 : tie.Need-returns-3
-unfolding doKind number
+unfolding kindRow number
 returns-3 c =
     let done = c .before .before in
     let start = done .before .before .before .before .before .before .before .before .before .before .before .before in
@@ -67,7 +67,7 @@ same-length-4 : tie.Need-same-length-4
 same-length-4 c = search needs
 
 returns-4 : tie.Need-returns-4
-unfolding doKind number
+unfolding kindRow number
 returns-4 c =
     let done = c .before .before in
     let start = done .before .before .before .before .before .before .before .before .before .before .before .before .before .before in
@@ -85,7 +85,7 @@ same-length-5 : tie.Need-same-length-5
 same-length-5 c = search needs
 
 returns-5 : tie.Need-returns-5
-unfolding doKind number
+unfolding kindRow number
 returns-5 c =
     let done = c .before .before in
     let start = done .before .before .before .before .before .before .before .before .before .before .before .before .before .before in
