@@ -4,12 +4,13 @@ use Prim.Native.Nat.{ℕ, zero, suc, _≤_}
 use native.Mathlib.Omega.{arith}
 use mathlib.Core.Path.{_≡_, refl, sym, ap, _∙_}
 use mathlib.Core.Logic.{_≢_, _⊎_, inl, inr}
-use mathlib.Core.List.{List, [], _∷_, _++_}
+use mathlib.Core.List.{List, [], _∷_}
 use mathlib.Core.Bool.{Bool, true, false, true≢false, _&&_}
 use lib.ListN.{take, drop, replicate}
 use Rattle.rules.specs.Words.{Every}
 use Rattle.rules.specs.Sound.{allOf, anyOf, allPlaces}
 use Rattle.rules.specs.Demands.{OneOf}
+pub use Rattle.rules.proofs.Lists.{every-append}
 use Rattle.laws.proofs.Bools.{and-left, and-right, and-both, or-left, or-right, or-first, or-second, _or_, if-and, if-or, tests-true}
 use Rattle.laws.proofs.Numbers.{same-or-not}
 
@@ -26,10 +27,6 @@ pub every-in : {A : Type 0} (P : A → Type 0) (xs : List A) → Every P xs → 
 every-in P [] h x i = absurd i
 every-in P (y ∷ xs) h x (inl q) = rw q (h .0)
 every-in P (y ∷ xs) h x (inr i) = every-in P xs (h .1) x i
-
-pub every-append : {A : Type 0} (P : A → Type 0) (a b : List A) → Every P a → Every P b → Every P (a ++ b)
-every-append P [] b h l = l
-every-append P (x ∷ a) b h l = (h .0, every-append P a b (h .1) l)
 
 pub every-take : {A : Type 0} (P : A → Type 0) (n : ℕ) (xs : List A) → Every P xs → Every P (take n xs)
 every-take P zero xs v = tt

@@ -1,14 +1,15 @@
--- The number that bytes stand for, digit by digit: of a list in two parts, of one byte more, of zeros.
+-- The number that bytes stand for, digit by digit: of a list in two parts (proved in the rules), of one byte more, of zeros.
 -- Bytes of one length are told apart by their numbers, and ordered by the first part that differs.
 use Prim.Native.Nat.{ℕ, zero, suc, _+_, _*_, _^_, _≤_, _<_}
 use native.Mathlib.Omega.{arith}
-use native.Mathlib.Nat.{pow-suc, add-zero, zero-add, add-suc, suc-add}
+use native.Mathlib.Nat.{add-zero, zero-add, add-suc, suc-add}
 use mathlib.Core.Path.{_≡_, refl, sym, ap, ap₂, _∙_}
 use mathlib.Core.List.{[], _∷_, _++_, append-nil}
 use lib.Arith.{digits-lt}
 use lib.ListN.{length, take, drop, getD, replicate, length-take, length-drop, length-replicate, take-append-drop}
 use lib.Seq.{take-suc, take-add}
 use Rattle.rules.specs.Words.{Bytes, AllBytes, numAfter, num, bytesBefore, bytesOf, word}
+pub use Rattle.rules.proofs.Bytes.{numAfter-append, numAfter-num, num-append}
 use Rattle.laws.proofs.Lists.{every-replicate}
 use Rattle.laws.proofs.Numbers.{digits-div, digits-mod}
 use Rattle.laws.proofs.Words.{num-fits, drop-bytes}
@@ -17,25 +18,6 @@ use Rattle.laws.proofs.Words.{num-fits, drop-bytes}
 pub all-bytes : (bs : Bytes) → ((i : ℕ) → getD bs i 0 < 256) → AllBytes bs
 all-bytes [] h = tt
 all-bytes (b ∷ bs) h = (h 0, all-bytes bs (λ i. h (suc i)))
-
--- a list in two parts
-pub numAfter-append : (a : ℕ) (xs ys : Bytes) → numAfter a (xs ++ ys) ≡ numAfter (numAfter a xs) ys
-unfolding numAfter
-numAfter-append a [] ys = refl
-numAfter-append a (x ∷ xs) ys = numAfter-append (a * 256 + x) xs ys
-
-pub numAfter-num : (a : ℕ) (bs : Bytes) → numAfter a bs ≡ a * 256 ^ length bs + num bs
-unfolding num numAfter
-numAfter-num a [] = omega arith
-numAfter-num a (b ∷ bs) =
-    let P : ℕ = 256 ^ length bs in
-    let front : numAfter (a * 256 + b) bs ≡ (a * 256 + b) * P + num bs = numAfter-num (a * 256 + b) bs in
-    let alone : numAfter (0 * 256 + b) bs ≡ (0 * 256 + b) * P + num bs = numAfter-num (0 * 256 + b) bs in
-    rw (pow-suc, front, alone) (omega arith)
-
-pub num-append : (xs ys : Bytes) → num (xs ++ ys) ≡ num xs * 256 ^ length ys + num ys
-unfolding num
-num-append xs ys = numAfter-append 0 xs ys ∙ numAfter-num (num xs) ys
 
 -- one byte more
 pub num-suc : (bs : Bytes) (i : ℕ) → i < length bs → num (take (suc i) bs) ≡ num (take i bs) * 256 + getD bs i 0

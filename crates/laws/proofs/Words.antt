@@ -8,6 +8,7 @@ use mathlib.Core.List.{[], _∷_, _++_}
 use lib.Dec.{lit<}
 use lib.ListN.{length, take, drop, length-take}
 use Rattle.rules.specs.Words.{AllBytes, Bytes, numAfter, num, bytesBefore, bytesOf, word, wordAt, words, Every}
+pub use Rattle.rules.proofs.Bytes.{num-fits}
 use Rattle.laws.proofs.Lists.{every-append, every-take, every-drop}
 
 -- Parts of bytes, and bytes put together.
@@ -59,18 +60,7 @@ num-word x h = numAfter-bytes 32 x 0 [] h ∙ none-before (256 ^ 32)
     none-before : (y : ℕ) → 0 * y + x ≡ x
     none-before y = omega arith
 
--- The number that bytes stand for is below 256 to their count.
-pub numAfter-bound : (bs : Bytes) (a A : ℕ) → a < A → AllBytes bs → numAfter a bs < A * 256 ^ length bs
-unfolding numAfter
-numAfter-bound [] a A h v = omega arith
-numAfter-bound (b ∷ bs) a A h v =
-    let rest = numAfter-bound bs (a * 256 + b) (A * 256) (omega arith) (v .1) in
-    rw (pow-suc 256 (length bs)) (omega arith)
-
-pub num-fits : (n : ℕ) (bs : Bytes) → AllBytes bs → length bs ≡ n → num bs < 256 ^ n
-unfolding num
-num-fits n bs v q = let below = numAfter-bound bs 0 1 (omega arith) v in rw (← q) (omega arith)
-
+-- The number that at most 32 bytes stand for is a word.
 pub num-bound : (bs : Bytes) → AllBytes bs → length bs ≤ 32 → num bs < 2 ^ 256
 num-bound bs v h = lt-of-lt-of-le (num-fits (length bs) bs v refl) (pow-le-pow-right (lit< tt) h)
 

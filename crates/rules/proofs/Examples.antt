@@ -1,47 +1,87 @@
--- The document's examples hold. All are computed from the definitions, but for P3, which speaks of every key:
--- a prefix of 0 bits leaves no bit to compare, so the first bits of both keys are the number 0.
-use Prim.Native.Nat.{ℕ, _/_, _%_, _^_, _-_, _*_, _<_}
-use native.Mathlib.Nat.{div-eq-of-lt, mod-lt}
-use mathlib.Core.Path.{_≡_, refl, sym, subst, _∙_}
-use mathlib.Core.List.{[], _∷_}
-use mathlib.Core.Bool.{true}
-use borrow.Author.Tests.{eq-eqb}
-use lib.Dec.{lit<}
-use Rattle.rules.specs.Words.{keyBytes, Bytes}
+-- The document's examples hold. All are computed from the definitions, but for P1, P2 and P3, which speak of every key that begins
+-- with given bytes: what follows them is dropped before the first bits are compared, and the bits of the given bytes are computed.
+use Prim.Native.Nat.{ℕ, _+_, _*_, _/_, _^_, _-_, _<_}
+use native.Mathlib.Nat.{div-div-eq-div-mul}
+use native.Mathlib.Omega.{arith}
+use mathlib.Core.Path.{_≡_, refl, sym, ap, ap₂, _∙_}
+use mathlib.Core.List.{[], _∷_, _++_}
+use mathlib.Core.Bool.{Bool}
+use lib.Dec.{eqb, lit<}
+use lib.ListN.{length, length-append}
+use Rattle.rules.specs.Words.{keyBytes, Bytes, AllBytes, numAfter, num}
 use Rattle.rules.specs.Capabilities.{wordOf, prefix, base, firstBits, coversKey, covers}
 use Rattle.rules.specs.Answers.{codeNumber, codeBytes, fields, Refusal, aa, eb, e6, ef, x33, e1, e3, e5, e7, e9, refuse, outcome}
-use Rattle.rules.specs.Examples.{AllTrue, P1, P2, P3, P4, P5, P6, P7, P8, P9, P10, P11, cases, Refuses, SetUpHas13Records, SetUpNeedsItsBytes, WriteSparesKernelStorage, RegisterReportsTests, RequestsAreTestedFirst, CodeIsJudgedBeforeSeries, KeyStandsOnce, KeyIsRegisteredOnce, Types8And9AreUnknown, DataEndsWithItsFormat, OverlongIsJudgedBeforeKeys, CallAndRegisterStayOpenEnded, PrefixReachesTheLastBit, PrefixesEndAt192, WardClosesOneReferral, computed}
-use Rattle.rules.proofs.Lists.{_also_}
+use Rattle.rules.specs.Examples.{AllTrue, EveryKey, EveryCapability, P1, P2, P3, P4, P5, P6, P7, P8, P9, P10, P11, cases, Refuses, BytesAreNumbers, SetUpHas13Records, SetUpNeedsItsBytes, WriteSparesKernelStorage, RegisterReportsTests, RequestsAreTestedFirst, CodeIsJudgedBeforeSeries, KeyStandsOnce, KeyIsRegisteredOnce, Types8And9AreUnknown, DataEndsWithItsFormat, OverlongIsJudgedBeforeKeys, CallAndRegisterStayOpenEnded, PrefixReachesTheLastBit, PrefixesEndAt192, WardClosesOneReferral, computed}
+use Rattle.rules.proofs.Lists.{_also_, every-append}
+use Rattle.rules.proofs.Bytes.{drops-last, keeps-last}
 use Rattle.rules.proofs.Computing.{computing}
 
-no-prefix-covers-every-key : (w key : ℕ) → w < 256 ^ 31 → key < 256 ^ keyBytes → coversKey (w ∷ []) key ≡ true
-unfolding wordOf prefix base firstBits coversKey
-no-prefix-covers-every-key w key no-prefix fits = eq-eqb _ _ (with-prefix (w / 256 ^ 31) (div-eq-of-lt no-prefix))
-  where
-    with-prefix : (s : ℕ) → s ≡ 0 → key / 2 ^ (8 * keyBytes - s) ≡ w % 256 ^ keyBytes / 2 ^ (8 * keyBytes - s)
-    with-prefix s none =
-        subst (λ (s : ℕ). key / 2 ^ (8 * keyBytes - s) ≡ w % 256 ^ keyBytes / 2 ^ (8 * keyBytes - s)) (sym none)
-        (div-eq-of-lt fits ∙ sym (div-eq-of-lt (mod-lt _ (lit< tt))))
+-- the two parts of a capability that are read from its word
+module _ (s : ℕ) (unread key : Bytes) (v : AllBytes unread) (l : length unread ≡ 7) (w : AllBytes key) (k : length key ≡ keyBytes) where
+  its-prefix : prefix (num ((s ∷ unread) ++ key) ∷ []) ≡ s
+  unfolding prefix wordOf num numAfter
+  its-prefix =
+      sym (div-div-eq-div-mul (num ((s ∷ unread) ++ key)) (256 ^ keyBytes) (256 ^ 7))
+      ∙ ap (λ (x : ℕ). x / 256 ^ 7) (drops-last keyBytes (s ∷ unread) key w k)
+      ∙ drops-last 7 (s ∷ []) unread v l
+      ∙ omega arith
+
+  its-base : base (num ((s ∷ unread) ++ key) ∷ []) ≡ num key
+  unfolding base wordOf
+  its-base = keeps-last keyBytes (s ∷ unread) key w k
+
+-- the first s bits of a key that begins with given bytes, all but n of the 24: of their bits the last `spare` are not compared
+module _ (s n spare : ℕ) (bits : 2 ^ (8 * keyBytes - s) ≡ 256 ^ n * 2 ^ spare) where
+  first-bits : (first others : Bytes) → AllBytes others → length others ≡ n → firstBits s (num (first ++ others)) ≡ num first / 2 ^ spare
+  unfolding firstBits
+  first-bits first others v l =
+      ap (λ (d : ℕ). num (first ++ others) / d) bits
+      ∙ sym (div-div-eq-div-mul (num (first ++ others)) (256 ^ n) (2 ^ spare))
+      ∙ ap (λ (x : ℕ). x / 2 ^ spare) (drops-last n first others v l)
+
+  -- so the given bytes decide what is covered
+  beginning : (b first : Bytes) → AllBytes b → length b + n ≡ keyBytes → length first + n ≡ keyBytes
+      → {answer : Bool} → eqb (num first / 2 ^ spare) (num b / 2 ^ spare) ≡ answer
+      → EveryCapability s b (λ c. EveryKey first (λ key. coversKey c key ≡ answer))
+  unfolding coversKey
+  beginning b first given lb lf same unread u lu others o lo more m lm =
+      let key : ℕ = num (first ++ more) in
+      let whole : AllBytes (b ++ others) = every-append (λ x. x < 256) b others given o in
+      ap₂ (λ (p x : ℕ). eqb (firstBits p key) (firstBits p x)) (its-prefix s unread (b ++ others) u (omega arith) whole lo)
+      (its-base s unread (b ++ others) u (omega arith) whole lo)
+      ∙ ap₂ eqb (first-bits first more m (omega (arith, length-append first more)))
+      (first-bits b others o (omega (arith, length-append b others)))
+      ∙ same
+
+-- the same for Call, Register and Delete
+for-each : {A : Type 0} → A → A × (A × (A × Unit {0}))
+for-each a = (a, (a, (a, tt)))
 
 p1 : P1
-unfolding computing
-p1 = ((refl, (refl, (refl, tt))), (refl, (refl, (refl, tt))))
+unfolding covers num numAfter
+p1 = (
+  for-each (beginning 8 23 0 refl (0xa0 ∷ []) (0xa0 ∷ []) (lit< tt, tt) refl refl refl),
+  for-each (beginning 8 23 0 refl (0xa0 ∷ []) (0xa1 ∷ []) (lit< tt, tt) refl refl refl),
+)
 
 p2 : P2
-unfolding computing
-p2 = ((refl, (refl, (refl, tt))), (refl, (refl, (refl, tt))))
+unfolding covers num numAfter
+p2 = (
+  for-each (beginning 9 22 7 refl (0xa0 ∷ 0x00 ∷ []) (0xa0 ∷ 0x7f ∷ []) (lit< tt, (lit< tt, tt)) refl refl refl),
+  for-each (beginning 9 22 7 refl (0xa0 ∷ 0x00 ∷ []) (0xa0 ∷ 0x80 ∷ []) (lit< tt, (lit< tt, tt)) refl refl refl),
+)
 
 p3 : P3
-unfolding covers
-p3 = (no-prefix-covers-every-key, (no-prefix-covers-every-key, (no-prefix-covers-every-key, tt)))
+unfolding covers num numAfter
+p3 = for-each (beginning 0 24 0 refl [] [] tt refl refl refl)
 
 p4 : P4
 unfolding computing
-p4 = ((refl, (refl, (refl, tt))), (refl, (refl, (refl, tt))), (refl, (refl, (refl, tt))), (refl, (refl, (refl, tt))))
+p4 = (for-each refl, for-each refl, for-each refl, for-each refl)
 
 p5 : P5
 unfolding computing
-p5 = ((refl, (refl, (refl, tt))), (refl, (refl, (refl, tt))), (refl, (refl, (refl, tt))))
+p5 = (for-each refl, for-each refl, for-each refl)
 
 p6 : P6
 unfolding computing
@@ -74,7 +114,11 @@ P1-to-P11 = p1 also p2 also p3 also p4 also p5 also p6 also p7 also p8 also p9 a
 -- what a row of checks comes to that refuses; that a row does is computed
 refuses : (t : Bytes) (code : Refusal) → Refuses (codeBytes (codeNumber code)) t (outcome t (refuse code))
 unfolding fields outcome
-refuses t code = record { flagIs0 = refl; withBytes = refl; asLent = refl }
+refuses t code = record { nothingElse = refl; asLent = refl }
+
+bytes-are-numbers : BytesAreNumbers
+unfolding computing
+bytes-are-numbers = (refl, refl, refl, refl, refl)
 
 set-up-has-13-records : SetUpHas13Records
 unfolding computing
@@ -127,14 +171,14 @@ call-and-register-stay-open-ended = (refl, refuses _ e5)
 prefix-reaches-the-last-bit : PrefixReachesTheLastBit
 unfolding computing
 prefix-reaches-the-last-bit = (
-  (refl, (refl, (refl, tt))),
-  (refl, (refl, (refl, tt))),
-  (refl, (refl, (refl, tt))),
-  (refl, (refl, (refl, tt))),
-  (refl, (refl, (refl, tt))),
-  (refl, (refl, (refl, tt))),
-  (refl, (refl, (refl, tt))),
-  (refl, (refl, (refl, tt))),
+  for-each refl,
+  for-each refl,
+  for-each refl,
+  for-each refl,
+  for-each refl,
+  for-each refl,
+  for-each refl,
+  for-each refl,
 )
 
 prefixes-end-at-192 : PrefixesEndAt192
@@ -148,7 +192,8 @@ ward-closes-one-referral = (refl, refl, refuses _ x33, refuses _ x33, refuses _ 
 pub computed-hold : AllTrue computed
 unfolding computed
 computed-hold =
-    set-up-has-13-records
+    bytes-are-numbers
+    also set-up-has-13-records
     also set-up-needs-its-bytes
     also write-spares-kernel-storage
     also register-reports-tests

@@ -1,4 +1,5 @@
 pub mod Source
 pub mod Computing
 pub mod Lists
+pub mod Bytes
 pub mod Examples

@@ -1,18 +1,18 @@
 -- Document 01's examples ("Both sides of each rule"), and those of document 02's requests, as statements: P1 to P11 are the list
 -- `cases`, all others the list `computed`. Each list has one claim, that all of it is true: `P1-to-P11` and `computed-hold` of proofs/Examples.
-use Prim.Native.Nat.{ℕ, zero, suc, _+_, _*_, _^_, _-_, _<_}
+use Prim.Native.Nat.{ℕ, zero, suc, _+_, _*_, _/_, _%_, _^_, _-_}
 use mathlib.Core.Path.{_≡_}
 use mathlib.Core.List.{List, [], _∷_, _++_}
 use mathlib.Core.Bool.{true, false}
 use lib.ListN.{length, replicate}
-use Rattle.rules.specs.Words.{keyBytes, addressBytes, Bytes, Every, num, bytesOf, word}
+use Rattle.rules.specs.Words.{keyBytes, addressBytes, Bytes, Every, AllBytes, num, bytesOf, word}
 use Rattle.rules.specs.Table.{Store, get, _holds_, put, puts, bytes, store}
 use Rattle.rules.specs.KernelStorage.{addressSlot, indexSlot, countSlot, wordSlot, lengthSlot, placeSlot, kernelAddressSlot, currentSlot, entrySlot}
 use Rattle.rules.specs.Capabilities.{Kind, call, register, delete, setEntry, write, number, Capability, covers, within, prefixInRange}
 use Rattle.rules.specs.Procedures.{listLength, keyAt, indexOf, current, entryKey}
 use Rattle.rules.specs.Messages.{series, malformed}
 use Rattle.rules.specs.Validation.{passes}
-use Rattle.rules.specs.Answers.{fields, done, called, registered, Outcome}
+use Rattle.rules.specs.Answers.{noAddress, noValue, fields, done, called, registered, Outcome}
 use Rattle.rules.specs.Calls.{setUp, turn, systemCall}
 
 -- every statement of a list is true
@@ -20,13 +20,22 @@ abbrev pub AllTrue : List (Type 0) → Type 0
 AllTrue [] = Unit {0}
 AllTrue (A ∷ more) = A × AllTrue more
 
--- a statement about each of the three types that have a prefix
-abbrev pub EachPrefixType : (Kind → Type 0) → Type 0
-EachPrefixType statement = Every statement (call ∷ register ∷ delete ∷ [])
+-- a statement about each of the three kinds that have a prefix
+abbrev pub EachPrefixKind : (Kind → Type 0) → Type 0
+EachPrefixKind statement = Every statement (call ∷ register ∷ delete ∷ [])
 
--- a procedure key that begins with these bytes, each byte after them being `others`
-abbrev pub keyBeginning : (first : Bytes) → (others : ℕ) → ℕ
-keyBeginning first others = num (first ++ replicate (keyBytes - length first) others)
+-- a statement about every list of n bytes that begins with the bytes `first`, whatever the others are
+abbrev pub Beginning : (n : ℕ) → (first : Bytes) → (Bytes → Type 0) → Type 0
+Beginning n first statement = (others : Bytes) → AllBytes others → length (first ++ others) ≡ n → statement (first ++ others)
+
+-- about every procedure key that begins so, as "a0.." says
+abbrev pub EveryKey : (first : Bytes) → (ℕ → Type 0) → Type 0
+EveryKey first statement = Beginning keyBytes first (λ key. statement (num key))
+
+-- about every prefix capability of s bits whose base key begins with the bytes b: "byte 0: prefix s ..; bytes 1 to 7 unread, stored
+-- as sent; bytes 8 to 31: base key b". The unread bytes hold anything.
+abbrev pub EveryCapability : (s : ℕ) → (b : Bytes) → (Capability → Type 0) → Type 0
+EveryCapability s b statement = Beginning 8 (s ∷ []) (λ front. Beginning keyBytes b (λ base. statement (num (front ++ base) ∷ [])))
 
 -- the word of a prefix capability of s bits: its first byte is s, its last 24 bytes are the base key
 abbrev pub prefixWord : (s key : ℕ) → ℕ
@@ -38,7 +47,7 @@ prefixOfKey s key = prefixWord s key ∷ []
 
 -- one whose base key begins with the bytes b, and is zero after them
 abbrev pub prefixCapability : (s : ℕ) → (b : Bytes) → Capability
-prefixCapability s b = prefixOfKey s (keyBeginning b 0x00)
+prefixCapability s b = prefixOfKey s (num (b ++ replicate (keyBytes - length b) 0x00))
 
 -- a Write capability of base a and additional n
 abbrev pub writeCapability : (a n : ℕ) → Capability
@@ -123,34 +132,34 @@ keysOf s = keysFrom s 1 (listLength s)
 -- "s=8, b=a0..: covers a0.., not a1.."
 abbrev pub P1 : Type 0
 P1 =
-    EachPrefixType (λ type. covers type (prefixCapability 8 (0xa0 ∷ [])) (keyBeginning (0xa0 ∷ []) 0xff) ≡ true)
-    × EachPrefixType (λ type. covers type (prefixCapability 8 (0xa0 ∷ [])) (keyBeginning (0xa1 ∷ []) 0x00) ≡ false)
+    EachPrefixKind (λ kind. EveryCapability 8 (0xa0 ∷ []) (λ c. EveryKey (0xa0 ∷ []) (λ key. covers kind c key ≡ true)))
+    × EachPrefixKind (λ kind. EveryCapability 8 (0xa0 ∷ []) (λ c. EveryKey (0xa1 ∷ []) (λ key. covers kind c key ≡ false)))
 
 -- "s=9, b=a000..: covers a07f.., not a080.."
 abbrev pub P2 : Type 0
 P2 =
-    EachPrefixType (λ type. covers type (prefixCapability 9 (0xa0 ∷ 0x00 ∷ [])) (keyBeginning (0xa0 ∷ 0x7f ∷ []) 0xff) ≡ true)
-    × EachPrefixType (λ type. covers type (prefixCapability 9 (0xa0 ∷ 0x00 ∷ [])) (keyBeginning (0xa0 ∷ 0x80 ∷ []) 0x00) ≡ false)
+    EachPrefixKind (λ kind. EveryCapability 9 (0xa0 ∷ 0x00 ∷ []) (λ c. EveryKey (0xa0 ∷ 0x7f ∷ []) (λ key. covers kind c key ≡ true)))
+    × EachPrefixKind (λ kind. EveryCapability 9 (0xa0 ∷ 0x00 ∷ []) (λ c. EveryKey (0xa0 ∷ 0x80 ∷ []) (λ key. covers kind c key ≡ false)))
 
--- "s=0 covers every key": whatever the word w holds after its byte 0
+-- "s=0 covers every key": whatever its word holds after byte 0
 abbrev pub P3 : Type 0
-P3 = EachPrefixType (λ type. (w key : ℕ) → w < 256 ^ 31 → key < 256 ^ keyBytes → covers type (w ∷ []) key ≡ true)
+P3 = EachPrefixKind (λ kind. EveryCapability 0 [] (λ c. EveryKey [] (λ key. covers kind c key ≡ true)))
 
 -- "prefix 24 accepted, 25 malformed", amended by document 02, No. 2: "now 192 and 193"
 abbrev pub P4 : Type 0
 P4 =
-    EachPrefixType (λ type. prefixInRange type (prefixCapability 192 []) ≡ true)
-    × EachPrefixType (λ type. prefixInRange type (prefixCapability 193 []) ≡ false)
-    × EachPrefixType (λ type. malformed (series (wordsInBytes (requested type (prefixCapability 192 [])))) ≡ false)
-    × EachPrefixType (λ type. malformed (series (wordsInBytes (requested type (prefixCapability 193 [])))) ≡ true)
+    EachPrefixKind (λ kind. prefixInRange kind (prefixCapability 192 []) ≡ true)
+    × EachPrefixKind (λ kind. prefixInRange kind (prefixCapability 193 []) ≡ false)
+    × EachPrefixKind (λ kind. malformed (series (wordsInBytes (requested kind (prefixCapability 192 [])))) ≡ false)
+    × EachPrefixKind (λ kind. malformed (series (wordsInBytes (requested kind (prefixCapability 193 [])))) ≡ true)
 
 -- "(8,a0..) lies within (0,0), not the reverse". The reverse differs in its first bits already;
 -- the last line is for the lengths alone: (0,a0..) does not lie within (8,a0..).
 abbrev pub P5 : Type 0
 P5 =
-    EachPrefixType (λ type. within type (prefixCapability 8 (0xa0 ∷ [])) (prefixCapability 0 []) ≡ true)
-    × EachPrefixType (λ type. within type (prefixCapability 0 []) (prefixCapability 8 (0xa0 ∷ [])) ≡ false)
-    × EachPrefixType (λ type. within type (prefixCapability 0 (0xa0 ∷ [])) (prefixCapability 8 (0xa0 ∷ [])) ≡ false)
+    EachPrefixKind (λ kind. within kind (prefixCapability 8 (0xa0 ∷ [])) (prefixCapability 0 []) ≡ true)
+    × EachPrefixKind (λ kind. within kind (prefixCapability 0 []) (prefixCapability 8 (0xa0 ∷ [])) ≡ false)
+    × EachPrefixKind (λ kind. within kind (prefixCapability 0 (0xa0 ∷ [])) (prefixCapability 8 (0xa0 ∷ [])) ≡ false)
 
 -- "Write(8000 hex, 5) covers 8005, not 8006"
 abbrev pub P6 : Type 0
@@ -196,6 +205,15 @@ P11 =
 unfoldable pub cases : List (Type 0)
 cases = P1 ∷ P2 ∷ P3 ∷ P4 ∷ P5 ∷ P6 ∷ P7 ∷ P8 ∷ P9 ∷ P10 ∷ P11 ∷ []
 
+-- the last lines of the key to the signs, on top of Words
+abbrev pub BytesAreNumbers : Type 0
+BytesAreNumbers =
+    (num (0x01 ∷ 0x02 ∷ []) ≡ 258)
+    × (bytesOf 2 258 ≡ 0x01 ∷ 0x02 ∷ [])
+    × (num (0x01 ∷ 0x02 ∷ 0x03 ∷ []) / 256 ^ 2 ≡ num (0x01 ∷ []))
+    × (num (0x01 ∷ 0x02 ∷ 0x03 ∷ []) % 256 ^ 2 ≡ num (0x02 ∷ 0x03 ∷ []))
+    × (0xa7 / 2 ^ 4 ≡ 0x0a)
+
 -- The records of a set-up. A word or a count that is zero has none.
 abbrev pub firstRecords : (key address kernelAddress : ℕ) → Store
 firstRecords k a ka =
@@ -214,10 +232,10 @@ firstRecords k a ka =
     ∷ entrySlot holds k
     ∷ []
 
--- "A refusal is flag 0 with these bytes, .. and a table equal byte for byte to the one lent."
+-- "A refusal is flag 0 with these bytes, no other result, and a table equal byte for byte to the one lent."
 pub record Refuses (codeBytes table : Bytes) (o : Outcome) : Type 0 where
-  pub flagIs0 : fields (o .answer) .flag ≡ 0
-  pub withBytes : fields (o .answer) .code ≡ codeBytes
+  pub nothingElse :
+      fields (o .answer) ≡ record { flag = 0; code = codeBytes; tests = 0; address = noAddress; payload = []; value = noValue }
   pub asLent : o .table ≡ table
 
 -- the address "fffffffe ff..ff", and the first of kernel storage, "ffffffff 00..00"
@@ -326,22 +344,22 @@ CallAndRegisterStayOpenEnded =
 -- A prefix of 191 bits leaves the last bit of the key open, one of 192 bits leaves none. The last three lines are of lying within.
 abbrev pub PrefixReachesTheLastBit : Type 0
 PrefixReachesTheLastBit =
-    EachPrefixType (λ type. covers type (prefixOfKey 191 K3) K3 ≡ true)
-    × EachPrefixType (λ type. covers type (prefixOfKey 191 K3) K2 ≡ true)
-    × EachPrefixType (λ type. covers type (prefixOfKey 191 K3) K1 ≡ false)
-    × EachPrefixType (λ type. covers type (prefixOfKey 192 K3) K3 ≡ true)
-    × EachPrefixType (λ type. covers type (prefixOfKey 192 K3) K2 ≡ false)
-    × EachPrefixType (λ type. within type (prefixOfKey 192 K3) (prefixOfKey 191 K2) ≡ true)
-    × EachPrefixType (λ type. within type (prefixOfKey 192 K3) (prefixOfKey 192 K2) ≡ false)
-    × EachPrefixType (λ type. within type (prefixOfKey 191 K3) (prefixOfKey 192 K3) ≡ false)
+    EachPrefixKind (λ kind. covers kind (prefixOfKey 191 K3) K3 ≡ true)
+    × EachPrefixKind (λ kind. covers kind (prefixOfKey 191 K3) K2 ≡ true)
+    × EachPrefixKind (λ kind. covers kind (prefixOfKey 191 K3) K1 ≡ false)
+    × EachPrefixKind (λ kind. covers kind (prefixOfKey 192 K3) K3 ≡ true)
+    × EachPrefixKind (λ kind. covers kind (prefixOfKey 192 K3) K2 ≡ false)
+    × EachPrefixKind (λ kind. within kind (prefixOfKey 192 K3) (prefixOfKey 191 K2) ≡ true)
+    × EachPrefixKind (λ kind. within kind (prefixOfKey 192 K3) (prefixOfKey 192 K2) ≡ false)
+    × EachPrefixKind (λ kind. within kind (prefixOfKey 191 K3) (prefixOfKey 192 K3) ≡ false)
 
 -- K1 registers K2, with a right to delete the keys that share the first s bits of K3
 abbrev pub registeringWard : (s : ℕ) → Outcome
 registeringWard s = sending (setUpTable 1344) (registerMessage K2 (requested delete (prefixOfKey s K3)))
 
--- the table of a set-up, except that K1's capability of this type is for the keys that share the first s bits of K3
+-- the table of a set-up, except that K1's capability of this kind is for the keys that share the first s bits of K3
 abbrev pub tableWithPrefix : Kind → (s : ℕ) → Bytes
-tableWithPrefix type s = bytes 896 (put (store (setUpTable 832)) (wordSlot K1 (number type) 1 0) (prefixWord s K3))
+tableWithPrefix kind s = bytes 896 (put (store (setUpTable 832)) (wordSlot K1 (number kind) 1 0) (prefixWord s K3))
 
 -- "66 e5 and 66 ef use the new range": 191 and 192 are registered and sound, 193 is malformed and unsound
 abbrev pub PrefixesEndAt192 : Type 0
@@ -369,10 +387,12 @@ WardClosesOneReferral =
     × Refuses (0x33 ∷ []) (wardRunning 191) (sending (wardRunning 191) (deleteMessage K1))
     × Refuses (0x66 ∷ 0xe3 ∷ []) (wardRunning 191) (sending (wardRunning 191) (deleteMessage K2))
 
--- the examples of 01 that are not marked P, then those of document 02; what the program prints is in the crate examples
+-- the key's example, the examples of 01 that are not marked P, then those of document 02; what the program prints is in the crate
+-- examples
 unfoldable pub computed : List (Type 0)
 computed =
-    SetUpHas13Records
+    BytesAreNumbers
+    ∷ SetUpHas13Records
     ∷ SetUpNeedsItsBytes
     ∷ WriteSparesKernelStorage
     ∷ RegisterReportsTests

@@ -1,11 +1,30 @@
 -- Words and byte order. Bytes are read as one whole number, most significant first ("both big-endian").
 -- A word is a number below 2^256, written as 32 bytes. Sums of words are whole numbers and never wrap.
--- In all these files `elim (test) [ true ↦ a | false ↦ b ]` reads: a if the test holds, otherwise b. Some sentences have a test
--- of the same name in lower case: `RecordForm` and `recordForm`, `Ascending` and `ascending`, `Listed` and `listed`, `IsKey` and
--- `isKey`, `IsAddress` and `isAddress`, `Belongs` and `belongs`, `Sound` and `sound`, `SoundTable` and `soundTable`. The calls use
--- the tests; the laws show that test and sentence say the same. "This statement decides where they differ": where the Beaker
--- texts differ from document 01 or from each other, these files say what 01 says. What document 02 has changed of it is quoted where it
--- stands.
+--
+-- A key to the signs, for all these files:
+--   a ≡ b, a ≢ b       a equals b; a does not equal b
+--   A × B, A ⊎ B       A and B; A or B
+--   A → B              if A then B; of a definition: it takes an A and gives a B
+--   (x : ℕ) → B        for every whole number x: B
+--   ⊥, Unit            what never holds, and what always does; A → ⊥: A does not hold
+--   λ x. e             e, for whichever x is given
+--   elim (test) [ true ↦ a | false ↦ b ]    a if the test holds, otherwise b
+--   elim (o) [ none ↦ a | some x ↦ b ]      a if there is none, otherwise b, of the x that there is
+--   eqb, ltb, leb      the tests: equal, less, less or equal
+--   x ∷ xs, xs ++ ys   first x, then the list xs; first the list xs, then the list ys. The list [] is empty.
+--   r .name            the part of r that has this name
+--   x / 256 ^ n        drops the last n bytes of x
+--   x % 256 ^ n        keeps them
+--   x / 2 ^ n          drops the last n bits of x
+--   num, bytesOf       from bytes to their number, and back: 01 02 is 258, and 258 in 2 bytes is 01 02
+-- The last four lines are proved by example: `BytesAreNumbers` of Examples.
+--
+-- Some sentences have a test of the same name in lower case: `RecordForm` and `recordForm`, `Ascending` and `ascending`, `Listed`
+-- and `listed`, `IsKey` and `isKey`, `IsAddress` and `isAddress`, `Belongs` and `belongs`, `Sound` and `sound`, `SoundTable` and
+-- `soundTable`. The calls use the tests; the laws show that test and sentence say the same.
+--
+-- "This statement decides where they differ": where the Beaker texts differ from document 01 or from each other, these files say
+-- what 01 says. What document 02 has changed of it is quoted where it stands.
 use Prim.Native.Nat.{ℕ, zero, suc, _+_, _*_, _/_, _%_, _<_}
 use mathlib.Core.List.{List, [], _∷_}
 use mathlib.Core.Bool.{Bool, true, false}

@@ -2,7 +2,7 @@
 use Prim.Native.Nat.{ℕ}
 use Rattle.rules.specs.Words.{Bytes}
 use Rattle.rules.specs.Sound.{SoundTableUpTo, SoundTable}
-use Rattle.rules.specs.Examples.{EachPrefixType, tableWithPrefix}
+use Rattle.rules.specs.Examples.{EachPrefixKind, tableWithPrefix}
 
 -- "prefix s, 0 to 24 (bits)"
 abbrev pub greatestPrefixBefore : ℕ
@@ -17,6 +17,6 @@ SoundBeforeIsSoundAfter = (t : Bytes) → SoundTableBefore t → SoundTable t
 -- On both sides of the old limit: a table with a prefix of 24 bits was sound, with 25 it was not, and is sound now.
 abbrev pub PrefixesEndedAt24 : Type 0
 PrefixesEndedAt24 =
-    EachPrefixType (λ type. SoundTableBefore (tableWithPrefix type 24))
-    × EachPrefixType (λ type. SoundTableBefore (tableWithPrefix type 25) → ⊥)
-    × EachPrefixType (λ type. SoundTable (tableWithPrefix type 25))
+    EachPrefixKind (λ kind. SoundTableBefore (tableWithPrefix kind 24))
+    × EachPrefixKind (λ kind. SoundTableBefore (tableWithPrefix kind 25) → ⊥)
+    × EachPrefixKind (λ kind. SoundTable (tableWithPrefix kind 25))

@@ -10,7 +10,7 @@ use Rattle.rules.specs.Capabilities.{delete, number, Capability, prefix, base, 
 use Rattle.rules.specs.Messages.{typeOf, dataOf, keyWord}
 use Rattle.rules.specs.Calls.{chosen, systemCall}
 use Rattle.rules.specs.Demands.{succeeds}
-use Rattle.rules.specs.Examples.{EachPrefixType, prefixOfKey}
+use Rattle.rules.specs.Examples.{EachPrefixKind, prefixOfKey}
 
 -- all the bits of a key: 192
 abbrev pub wholeKey : ℕ
@@ -23,15 +23,15 @@ ToOneKey c = prefix c ≡ wholeKey
 -- It covers its base key and no other.
 abbrev pub CoversOneKey : Type 0
 CoversOneKey =
-    EachPrefixType (λ type. (c : Capability) → ToOneKey c → (key : ℕ) → (covers type c key ≡ true) ↔ (key ≡ base c))
+    EachPrefixKind (λ kind. (c : Capability) → ToOneKey c → (key : ℕ) → (covers kind c key ≡ true) ↔ (key ≡ base c))
 
 -- Every key has one, in range: 192 in byte 0 of its word, the key in bytes 8 to 31.
 abbrev pub EveryKeyHasOne : Type 0
 EveryKeyHasOne =
-    EachPrefixType (λ type. (key : ℕ) → key < 256 ^ keyBytes
+    EachPrefixKind (λ kind. (key : ℕ) → key < 256 ^ keyBytes
     → ToOneKey (prefixOfKey wholeKey key)
     × (base (prefixOfKey wholeKey key) ≡ key)
-    × (prefixInRange type (prefixOfKey wholeKey key) ≡ true))
+    × (prefixInRange kind (prefixOfKey wholeKey key) ≡ true))
 
 -- A Delete that names such a right and succeeds is of its base key, whatever the table and the message hold besides.
 abbrev pub ClosesOneKey : Type 0
@@ -41,5 +41,5 @@ ClosesOneKey = (t m code mask : Bytes) → typeOf m ≡ number delete → ToOneK
 -- What lies within it, and is in range, is a right to the same key: handed on, it does not grow.
 abbrev pub StaysOneKey : Type 0
 StaysOneKey =
-    EachPrefixType (λ type. (b a : Capability) → ToOneKey a → prefixInRange type b ≡ true → within type b a ≡ true
+    EachPrefixKind (λ kind. (b a : Capability) → ToOneKey a → prefixInRange kind b ≡ true → within kind b a ≡ true
     → ToOneKey b × (base b ≡ base a))
