@@ -66,8 +66,8 @@ pub fn register(index: u64, key: Key, address: Address, capabilities: &[Capabili
     for capability in capabilities {
         let words = capability.words();
         let size = 1 + words.len() as u64;
-        let kind = capability.kind().number();
-        push_words(&mut message, &[size.into(), u64::from(kind).into()]);
+        let type_number = capability.kind().number();
+        push_words(&mut message, &[size.into(), u64::from(type_number).into()]);
         push_words(&mut message, &words);
     }
     message

@@ -65,14 +65,14 @@ kind-inside {d = d} {i = i} {at = at} w h = go (ltb at (length d)) refl
 module _ {t₀ procedure : Bytes} {n count : ℕ} {d t : Bytes} {stored i at : ℕ} {r : Found}
     (w : StoringKind t₀ procedure n count d t stored i at) (q : RequestAt d at r) where
   abbrev found : Request
-  found = record { kind = q .type; capability = capabilityAt d (q .type) (r .«words_at») }
+  found = record { kind = q .kind; capability = capabilityAt d (q .kind) (r .«words_at») }
 
   -- a request of another type is passed over
   pub kind-pass : (r .kind .0 ≡ n → ⊥) → StoringKind t₀ procedure n count d t stored i (r .next)
   kind-pass other =
       let later : requestedOf (w .kind) (requestsFrom d at) ≡ requestedOf (w .kind) (requestsFrom d (r .next)) =
       ap (requestedOf (w .kind)) (q .first)
-      ∙ requested-other (w .kind) found (requestsFrom d (r .next)) (λ e. other (q .isType ∙ sym e ∙ w .names)) in
+      ∙ requested-other (w .kind) found (requestsFrom d (r .next)) (λ e. other (q .type ∙ sym e ∙ w .names)) in
       record {
         kind = w .kind;
         names = w .names;
@@ -85,8 +85,8 @@ module _ {t₀ procedure : Bytes} {n count : ℕ} {d t : Bytes} {stored i at : �
 
   -- one of the type is stored
   module _ (is : r .kind .0 ≡ n) where
-    same : q .type ≡ w .kind
-    same = number-inj (q .type) (w .kind) (sym (q .isType) ∙ is ∙ sym (w .names))
+    same : q .kind ≡ w .kind
+    same = number-inj (q .kind) (w .kind) (sym (q .type) ∙ is ∙ sym (w .names))
 
     one : requestedOf (w .kind) (requestsFrom d at)
         ≡ capabilityAt d (w .kind) (r .«words_at») ∷ requestedOf (w .kind) (requestsFrom d (r .next))

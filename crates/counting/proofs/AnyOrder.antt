@@ -38,12 +38,12 @@ module _ (p : ℕ) where
       )
 
 -- the words by types
-typedTaken : List Request → List Kind → ℕ
-typedTaken rs [] = 0
-typedTaken rs (kind ∷ more) = capabilitiesTaken (requestedOf kind rs) + typedTaken rs more
+byKindTaken : List Request → List Kind → ℕ
+byKindTaken rs [] = 0
+byKindTaken rs (kind ∷ more) = capabilitiesTaken (requestedOf kind rs) + byKindTaken rs more
 
-kinds-records : (p : ℕ) (rs : List Request) (ks : List Kind) → nonZero (kindRecords p rs ks) ≡ kindsTaken rs ks + typedTaken rs ks
-unfolding kindRecords nonZero kindsTaken typedTaken
+kinds-records : (p : ℕ) (rs : List Request) (ks : List Kind) → nonZero (kindRecords p rs ks) ≡ kindsTaken rs ks + byKindTaken rs ks
+unfolding kindRecords nonZero kindsTaken byKindTaken
 kinds-records p rs [] = refl
 kinds-records p rs (kind ∷ ks) =
     omega (
@@ -54,19 +54,19 @@ kinds-records p rs (kind ∷ ks) =
     )
 
 -- each request counts for its own type and for no other
-typed-one : (kind : Kind) (c : Capability) (rs : List Request)
-    → typedTaken (record { kind = kind; capability = c } ∷ rs) kinds ≡ wordsTaken c + typedTaken rs kinds
-unfolding typedTaken requestedOf sameKind number capabilitiesTaken
-typed-one call c rs = omega arith
-typed-one register c rs = omega arith
-typed-one delete c rs = omega arith
-typed-one setEntry c rs = omega arith
-typed-one write c rs = omega arith
+by-kind-one : (kind : Kind) (c : Capability) (rs : List Request)
+    → byKindTaken (record { kind = kind; capability = c } ∷ rs) kinds ≡ wordsTaken c + byKindTaken rs kinds
+unfolding byKindTaken requestedOf sameKind number capabilitiesTaken
+by-kind-one call c rs = omega arith
+by-kind-one register c rs = omega arith
+by-kind-one delete c rs = omega arith
+by-kind-one setEntry c rs = omega arith
+by-kind-one write c rs = omega arith
 
-typed-all : (rs : List Request) → typedTaken rs kinds ≡ requestsTaken rs
-unfolding typedTaken requestedOf capabilitiesTaken requestsTaken
-typed-all [] = refl
-typed-all (r ∷ rs) = omega (arith, typed-one (r .kind) (r .capability) rs, typed-all rs)
+by-kind-all : (rs : List Request) → byKindTaken rs kinds ≡ requestsTaken rs
+unfolding byKindTaken requestedOf capabilitiesTaken requestsTaken
+by-kind-all [] = refl
+by-kind-all (r ∷ rs) = omega (arith, by-kind-one (r .kind) (r .capability) rs, by-kind-all rs)
 
 pub counted-anyhow : (p : ℕ) (rs : List Request) → kindsTaken rs kinds + requestsTaken rs ≡ nonZero (kindRecords p rs kinds)
-counted-anyhow p rs = omega (arith, kinds-records p rs kinds, typed-all rs)
+counted-anyhow p rs = omega (arith, kinds-records p rs kinds, by-kind-all rs)

@@ -78,8 +78,8 @@ counting-requests d w =
     record { small = omega arith; low = omega arith; left = rw (← requests-start d) (omega arith); rest = w }
 
 module _ {d : Bytes} {at : ℕ} {r : Found} (q : RequestAt d at r) {count : ℕ} (e : count ≡ wordsOf (r .kind .0)) where
-  count-is : count ≡ wordCount (q .type)
-  count-is = e ∙ ap wordsOf (q .isType) ∙ named-words (number (q .type)) (q .type) (kindOf-number (q .type))
+  count-is : count ≡ wordCount (q .kind)
+  count-is = e ∙ ap wordsOf (q .type) ∙ named-words (number (q .kind)) (q .kind) (kindOf-number (q .kind))
 
   pub request-words-within : r .«words_at» + 32 * count ≤ length d
   request-words-within = omega (arith, q .within, q .nextAt, count-is)
@@ -88,11 +88,11 @@ module _ {d : Bytes} {at : ℕ} {r : Found} (q : RequestAt d at r) {count : ℕ}
       → CountingRequests d (r .next) (total + x)
   unfolding requestsTaken capabilityAt
   counted-request {total} {x} w c =
-      let this : x ≡ wordsTaken (words (wordCount (q .type)) (drop (r .«words_at») d)) = rw (← count-is) (c .is) in
+      let this : x ≡ wordsTaken (words (wordCount (q .kind)) (drop (r .«words_at») d)) = rw (← count-is) (c .is) in
       let next = ap requestsTaken (q .first) in
       record {
-        small = omega (arith, w .low, c .small, count-is, wordCount-small (q .type), q .within, q .nextAt, q .wordsAt);
-        low = omega (arith, w .low, c .small, count-is, wordCount-small (q .type), q .nextAt, q .wordsAt);
+        small = omega (arith, w .low, c .small, count-is, wordCount-small (q .kind), q .within, q .nextAt, q .wordsAt);
+        low = omega (arith, w .low, c .small, count-is, wordCount-small (q .kind), q .nextAt, q .wordsAt);
         left = omega (arith, w .left, this, next);
         rest = q .rest;
       }

@@ -62,33 +62,33 @@ module _ {t : Bytes} {used : ℕ} (g : SoundWith t used) {d : Bytes} {p : ℕ} {
   search-needs =
       let size = ap length (rest-part (f .«words_at») d) ∙ length-drop (f .«words_at») d in
       record {
-        kind = r .type;
-        names = sym (r .isType);
-        sound = rw (i .holder) (current-kind-sound g (r .type));
+        kind = r .kind;
+        names = sym (r .type);
+        sound = rw (i .holder) (current-kind-sound g (r .kind));
         size = omega (arith, size, r .nextAt, r .within);
       }
 
   module _ {copies : Bytes} {x : Search}
       (found : Searched (store t) p (f .kind .0) (take (length d - f .«words_at») (drop (f .«words_at») d)) copies x) where
     abbrev this : Capability
-    this = capabilityAt d (r .type) (f .«words_at»)
+    this = capabilityAt d (r .kind) (f .«words_at»)
 
     abbrev first : Request
-    first = record { kind = r .type; capability = this }
+    first = record { kind = r .kind; capability = this }
 
     -- what it found, of the request itself and of what the current procedure holds
     is-contained : x .contained ≡ contained (store t) first
     unfolding contained
     is-contained =
-        found .contained (r .type) (sym (r .isType))
-        ∙ ap (λ (c : Capability). anyOf (within (r .type) c) (held (store t) p (r .type))) (part-request d (f .«words_at») (r .type))
-        ∙ ap (λ (y : ℕ). anyOf (within (r .type) this) (held (store t) y (r .type))) (i .holder)
+        found .contained (r .kind) (sym (r .type))
+        ∙ ap (λ (c : Capability). anyOf (within (r .kind) c) (held (store t) p (r .kind))) (part-request d (f .«words_at») (r .kind))
+        ∙ ap (λ (y : ℕ). anyOf (within (r .kind) this) (held (store t) y (r .kind))) (i .holder)
 
-    its-tests : x .tests ≡ testsIn (r .type) this (held (store t) (current (store t)) (r .type))
+    its-tests : x .tests ≡ testsIn (r .kind) this (held (store t) (current (store t)) (r .kind))
     its-tests =
-        found .tests (r .type) (sym (r .isType))
-        ∙ ap (λ (c : Capability). testsIn (r .type) c (held (store t) p (r .type))) (part-request d (f .«words_at») (r .type))
-        ∙ ap (λ (y : ℕ). testsIn (r .type) this (held (store t) y (r .type))) (i .holder)
+        found .tests (r .kind) (sym (r .type))
+        ∙ ap (λ (c : Capability). testsIn (r .kind) c (held (store t) p (r .kind))) (part-request d (f .«words_at») (r .kind))
+        ∙ ap (λ (y : ℕ). testsIn (r .kind) this (held (store t) y (r .kind))) (i .holder)
 
     pub going-on : x .contained ≡ true → Going (store t) d p copies (x .reading) (f .next) (sum + x .tests)
     unfolding tests

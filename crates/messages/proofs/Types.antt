@@ -8,7 +8,7 @@ use borrow.Author.Tests.{ne-eqb}
 use Rattle.rules.specs.Words.{Bytes}
 use Rattle.rules.specs.Capabilities.{Kind, call, register, delete, setEntry, write, number, kindOf}
 use Rattle.rules.specs.Messages.{named, kindOrUnknown, minimum, openEnded, overlong}
-use Rattle.rules.specs.Source.{isKind, minimumOf, openEndedOf}
+use Rattle.rules.specs.Source.{isType, minimumOf, openEndedOf}
 use Rattle.laws.proofs.KindFacts.{kindOf-number, kindOf-some}
 use Rattle.messages.specs.Messages.{namedOf, overlongOf}
 use Rattle.messages.specs.declared.Named.the-variants.{Null, Unknown, Of}
@@ -48,18 +48,18 @@ named-other : (n : ℕ) → (n ≡ 0 → ⊥) → named n ≡ kindOrUnknown (kin
 unfolding named
 named-other n h = rw (ne-eqb n 0 h, named)
 
-pub named-known : (n : ℕ) → (n ≡ 0 → ⊥) → true ≡ isKind n → Of (record { 0 = n }) ≡ namedOf (named n)
-unfolding isKind namedOf kindOrUnknown
+pub named-known : (n : ℕ) → (n ≡ 0 → ⊥) → true ≡ isType n → Of (record { 0 = n }) ≡ namedOf (named n)
+unfolding isType namedOf kindOrUnknown
 named-known n h q = go (kindOf n) refl
   where
     go : (o : Option Kind) → kindOf n ≡ o → Of (record { 0 = n }) ≡ namedOf (named n)
-    go none e = absurd (true≢false (q ∙ rw (e, isKind)))
+    go none e = absurd (true≢false (q ∙ rw (e, isType)))
     go (some kind) e = rw (named-other n h, e) (ap (λ (x : ℕ). Of (record { 0 = x })) (sym (kindOf-some n kind e)))
 
-pub named-unknown : (n : ℕ) → (n ≡ 0 → ⊥) → false ≡ isKind n → Unknown ≡ namedOf (named n)
-unfolding isKind namedOf kindOrUnknown
+pub named-unknown : (n : ℕ) → (n ≡ 0 → ⊥) → false ≡ isType n → Unknown ≡ namedOf (named n)
+unfolding isType namedOf kindOrUnknown
 named-unknown n h q = go (kindOf n) refl
   where
     go : (o : Option Kind) → kindOf n ≡ o → Unknown ≡ namedOf (named n)
     go none e = rw (named-other n h, e)
-    go (some kind) e = absurd (true≢false (sym (q ∙ rw (e, isKind))))
+    go (some kind) e = absurd (true≢false (sym (q ∙ rw (e, isType))))

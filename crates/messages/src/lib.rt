@@ -25,7 +25,7 @@ pub enum Named {
 }
 
 // Of an empty message 0 is read, as the rules do: it is refused before its type is judged.
-pub fn kind_of(m: &[u8]) -> Named
+pub fn named_by(m: &[u8]) -> Named
     ensures { λ r. ⌜ r ≡ namedOf (named (typeOf (now (m .entry)))) ⌝ }
 {
     if m.len() == 0 {

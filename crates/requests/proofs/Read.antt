@@ -8,7 +8,7 @@ use mathlib.Core.Option.{some}
 use lib.ListN.{length}
 use Rattle.rules.specs.Words.{Bytes, wordAt}
 use Rattle.rules.specs.Capabilities.{Kind, kindOf, wordCount, prefixInRange}
-use Rattle.rules.specs.Source.{isKind, wordsOf, OfType}
+use Rattle.rules.specs.Source.{isType, wordsOf, OfType}
 use Rattle.laws.proofs.KindFacts.{kindOf-some, wordCount-small}
 use Rattle.laws.proofs.WordLists.{length-words}
 use Rattle.requests.specs.Requests.{smallOf, capabilityAt, requestHere, requestLength}
@@ -37,7 +37,7 @@ module _ (d : Bytes) (at n : ℕ) (isN : n ≡ smallOf (wordAt d (at + 32))) whe
   good-names : (kind : Kind) → Good d at kind → kindOf n ≡ some kind
   good-names kind g = ap kindOf isN ∙ small-kind (wordAt d (at + 32)) ∙ g .type
 
-  pub wrong-type : isKind n ≡ false → 0 ≡ requestLength (requestHere d at)
+  pub wrong-type : isType n ≡ false → 0 ≡ requestLength (requestHere d at)
   wrong-type q = no-good d at (λ kind g. true≢false (sym (named-known n kind (good-names kind g)) ∙ q))
 
   pub wrong-prefix : OfType n (λ kind. false ≡ prefixInRange kind (capabilityAt d kind (at + 64)))
@@ -60,7 +60,7 @@ module _ (d : Bytes) (at n : ℕ) (isN : n ≡ smallOf (wordAt d (at + 32))) whe
           let size = is-small (wordAt d at) (1 + wordCount kind) (omega arith) (g .size) in
           h (isS ∙ size ∙ ap (λ (x : ℕ). 1 + x) (sym (good-words kind g))))
 
-      pub all-good : isKind n ≡ true → s ≡ 1 + k → at < length d → 64 + 32 * k ≤ length d - at
+      pub all-good : isType n ≡ true → s ≡ 1 + k → at < length d → 64 + 32 * k ≤ length d - at
           → OfType n (λ kind. true ≡ prefixInRange kind (capabilityAt d kind (at + 64))) → 64 + 32 * k ≡ requestLength (requestHere d at)
       all-good q size l h p = go (named n q)
         where

@@ -8,24 +8,24 @@ use lib.ListN.{length, take, drop, length-drop}
 use lib.Seq.{take-all}
 use Rattle.rules.specs.Words.{Bytes, words}
 use Rattle.rules.specs.Capabilities.{Kind, call, register, delete, setEntry, write, number, kindOf, wordCount}
-use Rattle.rules.specs.Source.{isKind, wordsOf}
+use Rattle.rules.specs.Source.{isType, wordsOf}
 use Rattle.laws.proofs.KindFacts.{kindOf-some}
 use Rattle.requests.specs.Requests.{capabilityAt}
 
 pub data Names (n : ℕ) : Type 0 where
   names : (kind : Kind) → kindOf n ≡ some kind → Names n
 
-pub named : (n : ℕ) → isKind n ≡ true → Names n
-unfolding isKind
+pub named : (n : ℕ) → isType n ≡ true → Names n
+unfolding isType
 named n q = go (kindOf n) refl
   where
     go : (o : Option Kind) → kindOf n ≡ o → Names n
-    go none e = absurd (true≢false (sym q ∙ rw (e, isKind)))
+    go none e = absurd (true≢false (sym q ∙ rw (e, isType)))
     go (some kind) e = names kind e
 
-pub named-known : (n : ℕ) (kind : Kind) → kindOf n ≡ some kind → isKind n ≡ true
-unfolding isKind
-named-known n kind e = rw (e, isKind)
+pub named-known : (n : ℕ) (kind : Kind) → kindOf n ≡ some kind → isType n ≡ true
+unfolding isType
+named-known n kind e = rw (e, isType)
 
 pub named-words : (n : ℕ) (kind : Kind) → kindOf n ≡ some kind → wordsOf n ≡ wordCount kind
 unfolding wordsOf
@@ -40,7 +40,7 @@ one-word delete h = refl
 one-word setEntry h = absurd (omega arith)
 one-word write h = absurd (omega arith)
 
-pub prefix-word : (n : ℕ) → isKind n ≡ true → n ≤ 5 → wordsOf n ≡ 1
+pub prefix-word : (n : ℕ) → isType n ≡ true → n ≤ 5 → wordsOf n ≡ 1
 prefix-word n q h = go (named n q)
   where
     go : Names n → wordsOf n ≡ 1

@@ -7,7 +7,7 @@ ghost use lib.ListN.{length};
 ghost use Rattle.rules.specs.Words.{wordBytes, wordAt};
 ghost use Rattle.rules.specs.Messages.{seriesOf, malformed};
 ghost use Rattle.rules.specs.Capabilities.{prefixInRange};
-ghost use Rattle.rules.specs.Source.{isKind, wordsOf, OfType};
+ghost use Rattle.rules.specs.Source.{isType, wordsOf, OfType};
 ghost use Rattle.requests.specs.Requests.{capabilityAt, smallOf, requestHere, requestLength};
 
 // CapSize and CapType, which stand before a request's words.
@@ -24,7 +24,7 @@ fn small_at(d: &[u8], at: usize) -> u8
 
 // Whether the prefix of the capability whose words begin at an offset is in range.
 fn prefix_in_range(d: &[u8], at: usize, kind: Kind) -> bool
-    requires { ⌜ (isKind (kind .0) ≡ true) × (at + wordBytes * wordsOf (kind .0) ≤ length (now d)) ⌝ }
+    requires { ⌜ (isType (kind .0) ≡ true) × (at + wordBytes * wordsOf (kind .0) ≤ length (now d)) ⌝ }
     ensures { λ r. ⌜ OfType (kind .0) (λ k. r ≡ prefixInRange k (capabilityAt (now (d .entry)) k at)) ⌝ }
 {
     rights::prefix_in_range(kind, &d[at..])

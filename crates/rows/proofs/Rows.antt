@@ -15,7 +15,7 @@ use Rattle.rules.specs.Words.{Bytes, wordBytes, num, words}
 use Rattle.rules.specs.Table.{_holds_}
 use Rattle.rules.specs.KernelStorage.{endSecond, endThird}
 use Rattle.rules.specs.Capabilities.{Kind, call, register, delete, setEntry, write, number, kindOf, wordCount, prefixUpTo, prefixInRange}
-use Rattle.rules.specs.Source.{isKind, wordsOf}
+use Rattle.rules.specs.Source.{isType, wordsOf}
 use Rattle.laws.proofs.KindFacts.{words-of, kindOf-some}
 use Rattle.laws.proofs.Tests.{eqb-same, leb-same}
 use Rattle.words.specs.Words.{smallLimit}
@@ -95,19 +95,19 @@ module _ (count k v : ℕ) {a : Bool} (e : a ≡ eqb (k % 256 ^ 2) 0) where
   counted-still t = rw (sym e ∙ t)
 
 -- the type that the key's end names, if it names one
-module _ (type count k v : ℕ) {f : ℕ} (first : f ≡ endFirst k) {a : Bool} (e : a ≡ isKind f) where
+module _ (type count k v : ℕ) {f : ℕ} (first : f ≡ endFirst k) {a : Bool} (e : a ≡ isType f) where
   pub known-if : a ≡ true → {r : Bool} → ((kind : Kind) → number kind ≡ f → r ≡ kindRow kind type count (k holds v)) → r ≡ laterRow type count (k holds v)
-  unfolding isKind laterRow
+  unfolding isType laterRow
   known-if t {r} is = go (kindOf (endFirst k)) refl
     where
       go : (o : Option Kind) → kindOf (endFirst k) ≡ o → r ≡ laterRow type count (k holds v)
-      go none q = let no : isKind f ≡ false = rw (first, q, isKind) in absurd (true≢false (sym t ∙ e ∙ no))
+      go none q = let no : isType f ≡ false = rw (first, q, isType) in absurd (true≢false (sym t ∙ e ∙ no))
       go (some kind) q = rw (q, laterRow) (is kind (kindOf-some f kind (ap kindOf first ∙ q)))
 
   pub unknown-not : a ≡ false → false ≡ laterRow type count (k holds v)
-  unfolding isKind laterRow
+  unfolding isType laterRow
   unknown-not t = go (kindOf (endFirst k)) refl
     where
       go : (o : Option Kind) → kindOf (endFirst k) ≡ o → false ≡ laterRow type count (k holds v)
       go none q = rw (q, laterRow)
-      go (some kind) q = let yes : isKind f ≡ true = rw (first, q, isKind) in absurd (true≢false (sym yes ∙ sym e ∙ t))
+      go (some kind) q = let yes : isType f ≡ true = rw (first, q, isType) in absurd (true≢false (sym yes ∙ sym e ∙ t))

@@ -16,7 +16,7 @@ use Rattle.rules.specs.Words.{Bytes, num, numAfter}
 use Rattle.rules.specs.Capabilities.{Kind, call, register, delete, setEntry, write, kinds, number, kindAmong, kindOf, wordCount, greatestWords}
 use Rattle.rules.specs.Messages.{payloadAt, openEnded, dataOf, payloadOf}
 use Rattle.rules.specs.Answers.{codeBytes, Answer, refused, done, called, registered, looked, fields}
-use Rattle.rules.specs.Source.{isKind, wordsOf, openEndedOf, HasWords, refusedReply, replyOf, OwnPayload, fieldsWith, fieldsOf}
+use Rattle.rules.specs.Source.{isType, wordsOf, openEndedOf, HasWords, refusedReply, replyOf, OwnPayload, fieldsWith, fieldsOf}
 use Rattle.rules.specs.declared.Answer.{Answer as Case}
 use Rattle.rules.specs.declared.Answer.the-variants.{Refused, Done, Called, Registered, Looked}
 use Rattle.rules.specs.declared.Reply.{Reply}
@@ -61,12 +61,12 @@ same-test f g below from8 n = go (ltb n 8) refl
     go false e = from8 n (ltb-false n 8 e)
 
 -- the numbers that name a type are 3 to 7
-pub is-kind : (n : ℕ) → isKind n ≡ leb 3 n && leb n 7
-unfolding isKind kindOf kindAmong number
-is-kind = same-test isKind (λ k. leb 3 k && leb k 7) refl from8
+pub is-type : (n : ℕ) → isType n ≡ leb 3 n && leb n 7
+unfolding isType kindOf kindAmong number
+is-type = same-test isType (λ k. leb 3 k && leb k 7) refl from8
   where
-    from8 : (n : ℕ) → 8 ≤ n → isKind n ≡ leb 3 n && leb n 7
-    from8 n h = rw (names-none n h, isKind) (simp (le-leb 3 n (omega arith), lt-leb n 7 (omega arith)))
+    from8 : (n : ℕ) → 8 ≤ n → isType n ≡ leb 3 n && leb n 7
+    from8 n h = rw (names-none n h, isType) (simp (le-leb 3 n (omega arith), lt-leb n 7 (omega arith)))
 
 -- the types that are open-ended are 3 and 4
 pub is-open-ended : (n : ℕ) → openEndedOf n ≡ eqb n 3 || eqb n 4

@@ -1,4 +1,5 @@
--- Capabilities: the five types, what one covers, and when one lies within another. A kind is what document 01 calls a type.
+-- Capabilities: the five types, what one covers, and when one lies within another. A name says `kind` for one of these five, and
+-- `type` for a number, which names one of them or none; document 01 calls both a type.
 use Prim.Native.Nat.{ℕ, _+_, _*_, _/_, _%_, _^_, _-_}
 use mathlib.Core.List.{List, [], _∷_}
 use mathlib.Core.Bool.{Bool, true, false, _&&_}
@@ -23,12 +24,12 @@ number setEntry = 6
 number write = 7
 
 -- the kind that a number names, if it names one
-unfoldable pub kindAmong : List Kind → ℕ → Option Kind
-kindAmong [] n = none
-kindAmong (kind ∷ more) n = elim (eqb (number kind) n) [ true ↦ some kind | false ↦ kindAmong more n ]
+unfoldable pub kindAmong : List Kind → (type : ℕ) → Option Kind
+kindAmong [] type = none
+kindAmong (kind ∷ more) type = elim (eqb (number kind) type) [ true ↦ some kind | false ↦ kindAmong more type ]
 
-unfoldable pub kindOf : ℕ → Option Kind
-kindOf n = kindAmong kinds n
+unfoldable pub kindOf : (type : ℕ) → Option Kind
+kindOf type = kindAmong kinds type
 
 -- how many words a capability of the type has ("each table of word counts is kept as a constant": WORDS of the source)
 unfoldable pub wordCount : Kind → ℕ

@@ -19,9 +19,9 @@ use Rattle.rules.specs.declared.Answer.the-variants.{Refused, Done, Call
 use Rattle.rules.specs.declared.Reply.{Reply}
 use Rattle.rules.specs.declared.Numbers.{Numbers}
 
--- what the rules say of the type that a number names; false or 0 if it names none
-unfoldable pub isKind : ℕ → Bool
-isKind n = elim (kindOf n) [ none ↦ false | some kind ↦ true ]
+-- whether a number is a type; then what the rules say of the kind that it names, false or 0 if it names none
+unfoldable pub isType : ℕ → Bool
+isType n = elim (kindOf n) [ none ↦ false | some kind ↦ true ]
 
 unfoldable pub wordsOf : ℕ → ℕ
 wordsOf n = elim (kindOf n) [ none ↦ 0 | some kind ↦ wordCount kind ]
@@ -32,7 +32,7 @@ minimumOf n = elim (kindOf n) [ none ↦ 0 | some kind ↦ minimum kind ]
 unfoldable pub openEndedOf : ℕ → Bool
 openEndedOf n = elim (kindOf n) [ none ↦ false | some kind ↦ openEnded kind ]
 
--- what P says of the type that a number names; nothing if it names none
+-- what P says of the kind that has the type n; nothing if none has
 abbrev pub OfType : (n : ℕ) → (P : Kind → Type 0) → Type 0
 OfType n P = (kind : Kind) → number kind ≡ n → P kind
 

@@ -3,7 +3,7 @@
 ghost use mathlib.Core.Path.{_≡_};
 ghost use Rattle.rules.specs.Words.{Bytes};
 ghost use Rattle.rules.specs.Answers.{done, called, registered, looked};
-ghost use Rattle.rules.specs.Source.{isKind, HasWords, minimumOf, openEndedOf, refusedReply, replyOf, ruleNumbers};
+ghost use Rattle.rules.specs.Source.{isType, HasWords, minimumOf, openEndedOf, refusedReply, replyOf, ruleNumbers};
 
 // The bytes of a procedure's key.
 pub const KEY_BYTES: usize = 24;
@@ -72,7 +72,7 @@ impl Kind {
 
     // Whether the number names a type.
     pub fn known(self) -> bool
-        ensures { λ r. ⌜ r ≡ isKind (self .0) ⌝ }
+        ensures { λ r. ⌜ r ≡ isType (self .0) ⌝ }
     {
         let type_number = self.0;
         if type_number < Kind::CALL.0 {

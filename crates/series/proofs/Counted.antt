@@ -89,8 +89,8 @@ counted-more {d} {at} {counts} {r} c q =
       size = length-set counts n (getD counts n 0 + 1) ∙ c .size;
       few = λ i. few i (same-or-not i n);
       noType = λ i h.
-          getD-set-other counts n i (getD counts n 0 + 1) 0 (λ e. omega (arith, number-least (q .type), q .isType)) ∙ c .noType i h;
-      left = λ kind. left kind (same-or-not (number kind) (number (q .type)));
+          getD-set-other counts n i (getD counts n 0 + 1) 0 (λ e. omega (arith, number-least (q .kind), q .type)) ∙ c .noType i h;
+      left = λ kind. left kind (same-or-not (number kind) (number (q .kind)));
       rest = q .rest;
     }
   where
@@ -98,27 +98,27 @@ counted-more {d} {at} {counts} {r} c q =
     n = r .kind .0
 
     raised : getD (set counts n (getD counts n 0 + 1)) n 0 ≡ getD counts n 0 + 1
-    raised = getD-set-same counts n (getD counts n 0 + 1) 0 (omega (arith, number-below (q .type), q .isType, c .size))
+    raised = getD-set-same counts n (getD counts n 0 + 1) 0 (omega (arith, number-below (q .kind), q .type, c .size))
 
     few : (i : ℕ) → (i ≡ n) ⊎ (i ≡ n → ⊥) → getD (set counts n (getD counts n 0 + 1)) i 0 ≤ r .next
     few i (inl e) = rw (e, raised) (omega (arith, c .few n, q .wordsAt, q .nextAt))
     few i (inr o) = rw (getD-set-other counts n i (getD counts n 0 + 1) 0 o) (omega (arith, c .few i, q .wordsAt, q .nextAt))
 
     found : Request
-    found = record { kind = q .type; capability = capabilityAt d (q .type) (r .«words_at») }
+    found = record { kind = q .kind; capability = capabilityAt d (q .kind) (r .«words_at») }
 
     first : (kind : Kind) → count kind (requestsFrom d at) ≡ count kind (found ∷ requestsFrom d (r .next))
     first kind = ap (count kind) (q .first)
 
-    left : (kind : Kind) → (number kind ≡ number (q .type)) ⊎ (number kind ≡ number (q .type) → ⊥)
+    left : (kind : Kind) → (number kind ≡ number (q .kind)) ⊎ (number kind ≡ number (q .kind) → ⊥)
         → count kind (requests d) ≡ getD (set counts n (getD counts n 0 + 1)) (number kind) 0 + count kind (requestsFrom d (r .next))
     left kind (inl e) =
-        let at-n : number kind ≡ n = e ∙ sym (q .isType) in
+        let at-n : number kind ≡ n = e ∙ sym (q .type) in
         let here = c .left kind in
         let more = first kind ∙ one-more kind found (requestsFrom d (r .next)) e in
         rw (at-n, raised) (omega (arith, rw at-n at here, more))
     left kind (inr o) =
-        let off-n : number kind ≡ n → ⊥ = λ e. o (e ∙ q .isType) in
+        let off-n : number kind ≡ n → ⊥ = λ e. o (e ∙ q .type) in
         let here = c .left kind in
         let more = first kind ∙ no-more kind found (requestsFrom d (r .next)) o in
         rw (getD-set-other counts n (number kind) (getD counts n 0 + 1) 0 off-n) (omega (arith, here, more))

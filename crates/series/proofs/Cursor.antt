@@ -50,8 +50,8 @@ module _ (d : Bytes) (at : ℕ) (w : WellFormedFrom d at) (l : at < length d) wh
           subst (λ (i : ℕ). Follows d at (requestOfKind d at kind) i) next
           (follows d at (requestOfKind d at kind) (at + 64 + 32 * wordCount kind) w (series-good d at kind (well-formed-whole d at w) g)) in
           record {
-            type = kind;
-            isType = byte;
+            kind = kind;
+            type = byte;
             wordsAt = refl;
             nextAt = omega (arith, count);
             within = omega (arith, count, g .within);

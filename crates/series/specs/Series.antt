@@ -12,13 +12,13 @@ use Rattle.requests.specs.Requests.{WellFormedFrom, requestsFrom, capabilityAt}
 
 -- r is the request that begins at an offset of a well-formed series
 pub record RequestAt (d : Bytes) (at : ℕ) (r : Request) : Type 0 where
-  pub type : Kind
-  pub isType : r .kind .0 ≡ number type
+  pub kind : Kind
+  pub type : r .kind .0 ≡ number kind
   pub wordsAt : r .«words_at» ≡ at + 2 * wordBytes
-  pub nextAt : r .next ≡ r .«words_at» + wordBytes * wordCount type
+  pub nextAt : r .next ≡ r .«words_at» + wordBytes * wordCount kind
   pub within : r .next ≤ length d
-  pub inRange : prefixInRange type (capabilityAt d type (r .«words_at»)) ≡ true
-  pub first : requestsFrom d at ≡ record { kind = type; capability = capabilityAt d type (r .«words_at») } ∷ requestsFrom d (r .next)
+  pub inRange : prefixInRange kind (capabilityAt d kind (r .«words_at»)) ≡ true
+  pub first : requestsFrom d at ≡ record { kind = kind; capability = capabilityAt d kind (r .«words_at») } ∷ requestsFrom d (r .next)
   pub rest : WellFormedFrom d (r .next)
 
 -- how many are requested of each type, at the type's number

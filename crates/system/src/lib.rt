@@ -45,7 +45,7 @@ pub fn of_message(t: &mut [u8], used: usize, message: &[u8], code: &[u8], mask: 
     ensures { λ r. ⌜ Gives (outcome (now (t .entry)) (doNamed (room (now (t .entry))) (store (now (t .entry))) (dataOf (now (message .entry))) (now (code .entry)) (now (mask .entry)) (named (typeOf (now (message .entry)))))) r (now (t .exit)) ⌝ }
 {
     let d = messages::data_of(message);
-    match messages::kind_of(message) {
+    match messages::named_by(message) {
         Named::Unknown => Reply::refused(Refusal::UNKNOWN_TYPE),
         Named::Null => {
             if 0 < d.len() {

@@ -1,4 +1,4 @@
--- The types that are requested and the words that are not zero are the records that are not zero.
+-- The kinds that are requested and the words that are not zero are the records that are not zero.
 use native.Mathlib.Omega.{arith}
 use denote.Ref.{now}
 use borrow.Author.Needs.{needs}
@@ -18,11 +18,11 @@ add-result c = search needs
 
 returns : tie.Need-returns
 returns c =
-    let types = c .before .kinds-taken .ensures in
+    let kinds = c .before .kinds-taken .ensures in
     let words = c .requests-taken .ensures in
     record {
-      is = λ p. omega (arith, counted-anyhow p (requests (now (c .before .before .before .args .d))), types .0, words .0);
-      small = omega (arith, types .1, words .1);
+      is = λ p. omega (arith, counted-anyhow p (requests (now (c .before .before .before .args .d))), kinds .0, words .0);
+      small = omega (arith, kinds .1, words .1);
     }
 
 pub records-needed-spec : {M : Type 1} → statement M

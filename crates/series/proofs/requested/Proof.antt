@@ -29,7 +29,7 @@ mul-counts c = search needs
 array-read-counts : tie.Need-array-read-counts Inv-loop μ-loop
 array-read-counts c =
     let request = c .before .request-at .ensures in
-    omega (arith, number-below (request .type), request .isType)
+    omega (arith, number-below (request .kind), request .type)
 
 add-counts : tie.Need-add-counts Inv-loop μ-loop
 add-counts c = omega (arith, c .before .before .before .loop .inv .few (c .before .request-at .result .kind .0))
@@ -37,7 +37,7 @@ add-counts c = omega (arith, c .before .before .before .loop .inv .few (c .befor
 array-write-counts : tie.Need-array-write-counts Inv-loop μ-loop
 array-write-counts c =
     let request = c .before .request-at .ensures in
-    omega (arith, number-below (request .type), request .isType)
+    omega (arith, number-below (request .kind), request .type)
 
 loop-less : tie.Need-loop-less Inv-loop μ-loop
 loop-less c =

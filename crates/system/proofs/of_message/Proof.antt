@@ -12,8 +12,8 @@ use Rattle.system.proofs.of_message.Tie as tie
 data-of-requires : tie.Need-data-of-requires
 data-of-requires c κs = search needs
 
-kind-of-requires : tie.Need-kind-of-requires
-kind-of-requires c κs = search needs
+named-by-requires : tie.Need-named-by-requires
+named-by-requires c κs = search needs
 
 enum-told : tie.Need-enum-told
 enum-told c = search needs
@@ -44,9 +44,9 @@ unfolding codeNumber
 returns c =
     let short = c .before .before in
     let kind = short .before .before in
-    let kind-of = kind .before .before in
-    let type = names-type _ (kind-of .kind-of .ensures) (kind .kind .given .1) in
-    rw (← kind-of .before .data-of .ensures)
+    let named-by = kind .before .before in
+    let type = names-type _ (named-by .named-by .ensures) (kind .kind .given .1) in
+    rw (← named-by .before .data-of .ensures)
     (short-refused _ _ _ _ _ type (short .short .ensures) (c .before .if2 .taken) (c .refused3 .ensures))
 
 overlong-requires : tie.Need-overlong-requires
@@ -67,9 +67,9 @@ returns-2 c =
     let if2 = leading .before .before in
     let short = if2 .before in
     let kind = short .before .before in
-    let kind-of = kind .before .before in
-    let type = names-type _ (kind-of .kind-of .ensures) (kind .kind .given .1) in
-    rw (← kind-of .before .data-of .ensures)
+    let named-by = kind .before .before in
+    let type = names-type _ (named-by .named-by .ensures) (kind .kind .given .1) in
+    rw (← named-by .before .data-of .ensures)
     (overlong-refused _ _ _ _ _ type (short .short .ensures) (if2 .if2 .left) (leading .before .overlong .ensures) (c .before .if3 .taken)
     (c .refused4 .ensures))
 
@@ -84,9 +84,9 @@ returns-3 c =
     let if2 = leading .before .before in
     let short = if2 .before in
     let kind = short .before .before in
-    let kind-of = kind .before .before in
-    let type = names-type _ (kind-of .kind-of .ensures) (kind .kind .given .1) in
-    rw (← kind-of .before .data-of .ensures)
+    let named-by = kind .before .before in
+    let type = names-type _ (named-by .named-by .ensures) (kind .kind .given .1) in
+    rw (← named-by .before .data-of .ensures)
     (leading-refused _ _ _ _ _ type (short .short .ensures) (if2 .if2 .left) (leading .before .overlong .ensures) (if3 .if3 .left)
     (leading .leading .ensures) (c .before .if4 .taken) (c .refused5 .ensures))
 
@@ -97,10 +97,10 @@ of-kind-requires c κs =
     let if2 = leading .before .before in
     let short = if2 .before in
     let kind = short .before .before in
-    let kind-of = kind .before .before in
-    let data-of = kind-of .before in
+    let named-by = kind .before .before in
+    let data-of = named-by .before in
     let start = data-of .before .before .before .before .before in
-    let type = names-type _ (kind-of .kind-of .ensures) (kind .kind .given .1) in (
+    let type = names-type _ (named-by .named-by .ensures) (kind .kind .given .1) in (
       start .pre .0,
       acceptable _ _ type (short .short .ensures) (if2 .if2 .left) (leading .leading .ensures) (if4 .if4 .left)
           (rw (data-of .data-of .ensures) (data-short _ (start .pre .1 .0))) (start .pre .1 .1),
@@ -110,22 +110,22 @@ returns-4 : tie.Need-returns-4
 unfolding codeNumber
 returns-4 c =
     let told = c .before in
-    unknown-refused _ _ _ _ _ (names-unknown _ (told .before .before .kind-of .ensures) (told .enum-told .given .1)) (c .refused .ensures)
+    unknown-refused _ _ _ _ _ (names-unknown _ (told .before .before .named-by .ensures) (told .enum-told .given .1)) (c .refused .ensures)
 
 returns-5 : tie.Need-returns-5
 unfolding codeNumber
 returns-5 c =
     let told = c .before .before in
-    let kind-of = told .before .before in
-    rw (← kind-of .before .data-of .ensures)
-    (null-refused _ _ _ _ _ (names-null _ (kind-of .kind-of .ensures) (told .enum-told2 .given .1)) (omega (arith, c .before .if1 .taken)) (c .refused2 .ensures))
+    let named-by = told .before .before in
+    rw (← named-by .before .data-of .ensures)
+    (null-refused _ _ _ _ _ (names-null _ (named-by .named-by .ensures) (told .enum-told2 .given .1)) (omega (arith, c .before .if1 .taken)) (c .refused2 .ensures))
 
 returns-6 : tie.Need-returns-6
 returns-6 c =
     let told = c .before .before in
-    let kind-of = told .before .before in
-    rw (← kind-of .before .data-of .ensures)
-    (null-done _ _ _ _ _ (names-null _ (kind-of .kind-of .ensures) (told .enum-told2 .given .1)) (c .before .if1 .left) (c .done .ensures))
+    let named-by = told .before .before in
+    rw (← named-by .before .data-of .ensures)
+    (null-done _ _ _ _ _ (names-null _ (named-by .named-by .ensures) (told .enum-told2 .given .1)) (c .before .if1 .left) (c .done .ensures))
 
 same-length : tie.Need-same-length
 same-length c = search needs
@@ -139,9 +139,9 @@ returns-7 c =
     let if2 = leading .before .before in
     let short = if2 .before in
     let kind = short .before .before in
-    let kind-of = kind .before .before in
-    let type = names-type _ (kind-of .kind-of .ensures) (kind .kind .given .1) in
-    rw (← kind-of .before .data-of .ensures)
+    let named-by = kind .before .before in
+    let type = names-type _ (named-by .named-by .ensures) (kind .kind .given .1) in
+    rw (← named-by .before .data-of .ensures)
     (own-row _ _ _ _ _ type (short .short .ensures) (if2 .if2 .left) (leading .before .overlong .ensures) (if3 .if3 .left)
     (leading .leading .ensures) (if4 .if4 .left) (own .of-kind .ensures))
 
@@ -150,7 +150,7 @@ of-message-spec =
     tie.close
     (tie.spec
     data-of-requires
-    kind-of-requires
+    named-by-requires
     enum-told
     refused-requires
     enum-told-2

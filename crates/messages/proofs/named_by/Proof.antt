@@ -6,8 +6,8 @@ use lib.ListN.{List·getD-eq-default}
 use borrow.Author.Needs.{needs}
 use Rattle.rules.specs.Messages.{typeOf}
 use Rattle.messages.proofs.Types.{named-null, named-known, named-unknown}
-use Rattle.messages.proofs.kind_of.Statement.{statement}
-use Rattle.messages.proofs.kind_of.Tie as tie
+use Rattle.messages.proofs.named_by.Statement.{statement}
+use Rattle.messages.proofs.named_by.Tie as tie
 
 returns : tie.Need-returns
 unfolding typeOf
@@ -31,5 +31,5 @@ returns-4 : tie.Need-returns-4
 unfolding typeOf
 returns-4 c = named-unknown _ (c .before .before .if2 .left) (sym (c .if3 .left) ∙ c .before .known .ensures)
 
-pub kind-of-spec : {M : Type 1} → statement M
-kind-of-spec = tie.close (tie.spec returns shared-slice-read-number returns-2 known-requires returns-3 returns-4)
+pub named-by-spec : {M : Type 1} → statement M
+named-by-spec = tie.close (tie.spec returns shared-slice-read-number returns-2 known-requires returns-3 returns-4)
