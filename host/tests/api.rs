@@ -664,13 +664,4 @@ mod exports {
             registered
         );
     }
-
-    /// The layout that include/beaker.h declares.
-    #[test]
-    fn a_reply_is_the_headers_struct() {
-        assert_eq!(
-            (std::mem::size_of::<Reply>(), std::mem::align_of::<Reply>()),
-            (80, 8)
-        );
-    }
 }

@@ -1,5 +1,6 @@
 /* The header's functions and every field of the struct, from C. tests/c_program.rs compiles and
- * runs it; it ends with status 0, or names the first line that does not hold. */
+ * runs it; it prints the struct's layout and ends with status 0, or names the first line that does
+ * not hold. */
 #include "beaker.h"
 
 #include <stdio.h>
@@ -15,6 +16,12 @@
     } while (0)
 
 _Static_assert(sizeof(struct beaker_reply) == 80, "the struct has no gap and no tail");
+
+/* Prints where a field stands and how many bytes it has: the test compares that with the Rust
+ * package's struct. */
+#define PRINT_PLACE(field)                                                                         \
+    printf(#field " %zu %zu\n", offsetof(struct beaker_reply, field),                              \
+           sizeof((struct beaker_reply *)0)->field)
 
 enum { CALL = 3, REGISTER = 4, DELETE = 5, WRITE = 7, DATA = 1, WORD = BEAKER_WORD_BYTES };
 
@@ -106,6 +113,19 @@ static void delete_it(void) {
     HOLDS(refused(call(message, sizeof message), 2, 0x66, 0x33));
 }
 
+static void print_places(void) {
+    PRINT_PLACE(tests);
+    PRINT_PLACE(payload_at);
+    PRINT_PLACE(payload_len);
+    PRINT_PLACE(address);
+    PRINT_PLACE(value);
+    PRINT_PLACE(flag);
+    PRINT_PLACE(code_len);
+    PRINT_PLACE(code);
+    printf("in all %zu, aligned to %zu\n", sizeof(struct beaker_reply),
+           _Alignof(struct beaker_reply));
+}
+
 int main(void) {
     const uint8_t null_message[1] = {0};
     const uint8_t overlong[2] = {0, 0};
@@ -119,6 +139,6 @@ int main(void) {
     HOLDS(refused(call(overlong, 2), 2, 0x66, 0xeb));
     HOLDS(refused(call(unknown, 1), 1, 0xaa, 0));
     HOLDS(refused(call(null_message, 0), 2, 0x66, 0xe0));
-    puts("every line holds");
+    print_places();
     return 0;
 }

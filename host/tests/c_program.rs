@@ -1,7 +1,10 @@
 //! Compiles tests/c_program.c over include/beaker.h, with warnings as errors, links the kernel's
-//! archive and runs the program.
+//! archive and runs the program. The layout that it prints of the header's struct must be that of
+//! the package's.
 
+use beaker::raw::Reply;
 use std::env;
+use std::mem::{align_of, size_of, size_of_val};
 use std::path::Path;
 use std::process::{Command, Output};
 
@@ -49,8 +52,23 @@ fn a_c_program_runs_the_kernel() {
         "" => run(&mut Command::new(&program)),
         runner => run(Command::new(runner).arg(&program)),
     };
-    assert_eq!(
-        String::from_utf8_lossy(&output.stdout),
-        "every line holds\n"
-    );
+    assert_eq!(String::from_utf8_lossy(&output.stdout), layout());
+}
+
+/// Where each field of a reply stands and how many bytes it has, as the C program prints it.
+fn layout() -> String {
+    let mut table = [0; 64];
+    let reply = beaker::raw::turn(&mut table, &[]);
+    let start = std::ptr::addr_of!(reply) as usize;
+    let mut lines = String::new();
+    macro_rules! print_place {
+        ($($field:ident)*) => {$(
+            let place = std::ptr::addr_of!(reply.$field) as usize - start;
+            let size = size_of_val(&reply.$field);
+            lines += &format!("{} {place} {size}\n", stringify!($field));
+        )*};
+    }
+    print_place!(tests payload_at payload_len address value flag code_len code);
+    let (size, align) = (size_of::<Reply>(), align_of::<Reply>());
+    lines + &format!("in all {size}, aligned to {align}\n")
 }
