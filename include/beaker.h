@@ -9,6 +9,11 @@
  *   thread changes them meanwhile. A length is at most PTRDIFF_MAX.
  * - Where the table is written, nobody else reads or writes it during the call, and it overlaps
  *   nothing else that is lent.
+ * - BEAKER_STACK_BYTES of stack are free below the caller's frame. This is measured, not proved.
+ *
+ * The kernel also believes what it is told of who runs, of a contract's code and of the ledger:
+ * "What is assumed of the host" in docs/PROMISES.md says what a host owes it. This header is written
+ * by hand; host/tests/c_program.c tests it.
  *
  * A refusal leaves every byte of the table as it was. docs/HANDBOOK.md explains every code.
  */
@@ -26,6 +31,10 @@ extern "C" {
 #define BEAKER_ADDRESS_BYTES 20
 #define BEAKER_WORD_BYTES 32
 #define BEAKER_FULL_TABLE_BYTES 65536
+
+/* How many bytes of stack a call needs at most, below its caller's frame. docs/PROMISES.md has what
+ * was measured; `cargo test --test stack -- --nocapture`, in host/, measures it again. */
+#define BEAKER_STACK_BYTES 20480
 
 /* What a call answers. Fields that an answer does not name are zero. */
 struct beaker_reply {

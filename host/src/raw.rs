@@ -35,6 +35,12 @@ pub struct Reply {
     pub code: [u8; 2],
 }
 
+/// How many bytes of stack a call needs at most, below its caller's frame.
+///
+/// No proof speaks of it. `tests/stack.rs` measures it and adds it up from the archive's code;
+/// docs/PROMISES.md has the figures. A thread has far more, unless it was given less.
+pub const STACK_BYTES: usize = 20_480;
+
 // Each slice is lent as a pointer and a length.
 extern "C" {
     fn beaker_set_up(

@@ -17,26 +17,23 @@
 //! the checksum of the table after.
 
 mod independent;
+#[path = "vectors/lines.rs"]
+mod lines;
 
-use beaker::raw;
+use beaker::raw::Reply;
 use independent::{answers::Answer, calls};
+use lines::{each_call, Call};
 
-const CALLS: &str = include_str!("vectors/calls.txt");
 const ANSWERS: &str = include_str!("vectors/answers.txt");
 
 #[test]
 fn the_archive_answers_as_written_down() {
-    compare(|name, table, fields| match name {
-        "u" => of_reply(raw::set_up(table, &fields[0], &fields[1], &fields[2])),
-        "t" => of_reply(raw::turn(table, &fields[0])),
-        "l" => of_reply(raw::look(table, &fields[0])),
-        _ => of_reply(raw::system_call(table, &fields[0], &fields[1], &fields[2])),
-    });
+    compare(|call, table| of_reply(call.by_archive(table)));
 }
 
 #[test]
 fn the_independent_implementation_answers_as_written_down() {
-    compare(|name, table, fields| match name {
+    compare(|Call { name, fields }, table| match *name {
         "u" => calls::set_up(table, &fields[0], &fields[1], &fields[2]),
         "t" => calls::turn(table, &fields[0]),
         "l" => calls::look(table, &fields[0]),
@@ -45,7 +42,7 @@ fn the_independent_implementation_answers_as_written_down() {
 }
 
 /// The archive's result in the independent implementation's form.
-fn of_reply(reply: raw::Reply) -> Answer {
+fn of_reply(reply: Reply) -> Answer {
     Answer {
         flag: reply.flag,
         code: reply.code[..usize::from(reply.code_len)].to_vec(),
@@ -58,50 +55,21 @@ fn of_reply(reply: raw::Reply) -> Answer {
 }
 
 /// Makes every call and compares each answer with the line written down for it.
-fn compare(make: impl Fn(&str, &mut [u8], &[Vec<u8>]) -> Answer) {
-    let mut table = Vec::new();
+fn compare(make: impl Fn(&Call, &mut [u8]) -> Answer) {
     let mut answers = ANSWERS.lines();
     let mut calls = 0;
-    for line in CALLS.lines() {
-        let (name, fields) = parse(line);
-        match name {
-            "n" => table = vec![0; number(&fields[0])],
-            "p" => table[number(&fields[0])..][..fields[1].len()].copy_from_slice(&fields[1]),
-            _ => {
-                let answer = make(name, &mut table, &fields);
-                let line_of_answer = print(&answer, &fields[0], &table);
-                calls += 1;
-                assert_eq!(
-                    Some(line_of_answer.as_str()),
-                    answers.next(),
-                    "call {calls}: {line}"
-                );
-            }
-        }
-    }
+    each_call(|line, call, table| {
+        let answer = make(call, table);
+        let line_of_answer = print(&answer, &call.fields[0], table);
+        calls += 1;
+        assert_eq!(
+            Some(line_of_answer.as_str()),
+            answers.next(),
+            "call {calls}: {line}"
+        );
+    });
     assert_eq!(answers.next(), None);
     assert_eq!(calls, 1_722);
-}
-
-/// A line's name and its fields.
-fn parse(line: &str) -> (&str, Vec<Vec<u8>>) {
-    let mut words = line.split(' ');
-    let name = words.next().unwrap();
-    (name, words.map(bytes).collect())
-}
-
-fn bytes(field: &str) -> Vec<u8> {
-    if field == "-" {
-        return Vec::new();
-    }
-    let digits = (0..field.len() / 2).map(|i| &field[2 * i..][..2]);
-    digits
-        .map(|pair| u8::from_str_radix(pair, 16).unwrap())
-        .collect()
-}
-
-fn number(field: &[u8]) -> usize {
-    u32::from_be_bytes(field.try_into().unwrap()) as usize
 }
 
 /// The line of an answer. A payload is a part of the call's first field.
