@@ -38,7 +38,7 @@ fn the_header_and_the_promises_name_the_bound() {
 /// codes, and the vectors', which give every answer and go up to the longest message.
 #[test]
 fn no_call_uses_more() {
-    let mut stack = vec![0; 2 * STACK_BYTES];
+    let mut stack = vec![PATTERN; ROOM];
     let mut deepest = BTreeMap::new();
     for case in cases::all().into_iter().flat_map(|(_, cases)| cases) {
         let mut table = case.lent.borrow_mut();
@@ -98,7 +98,8 @@ fn row_of_message(message: &[u8]) -> &'static str {
 }
 
 /// The deepest path through the archive's code. A function that calls itself, takes a frame of no
-/// fixed size or calls what a pointer names has no such bound, and none is there.
+/// fixed size or calls what a pointer names has no such bound, and none is there; a jump table is
+/// taken to stay in its function.
 #[test]
 fn no_path_needs_more() {
     let code = Code::of_archive();
@@ -117,13 +118,21 @@ fn no_path_needs_more() {
 
 const PATTERN: u8 = 0xa5;
 
-/// How many bytes of a stack a call changes. The frame from which the call is made is counted with
-/// them.
+/// The length of the stack on which a call is measured.
+const ROOM: usize = 1 << 20;
+
+/// How many bytes of a stack, filled with the pattern, a call changes; they are filled again. The
+/// frame from which the call is made is counted with them.
 fn depth(stack: &mut [u8], mut call: impl FnMut()) -> usize {
-    stack.fill(PATTERN);
+    const KEPT: [u8; 4_096] = [PATTERN; 4_096];
     run_on(stack, &mut call);
-    let kept = stack.iter().take_while(|&&byte| byte == PATTERN).count();
-    stack.len() - kept
+    // Page by page first: most of the stack is kept.
+    let pages = stack.chunks(KEPT.len()).take_while(|&page| page == KEPT);
+    let (_, rest) = stack.split_at_mut(KEPT.len() * pages.count());
+    let kept = rest.iter().take_while(|&&byte| byte == PATTERN).count();
+    let changed = &mut rest[kept..];
+    changed.fill(PATTERN);
+    changed.len()
 }
 
 /// Runs a function on this stack.
@@ -133,7 +142,8 @@ fn run_on<F: FnMut()>(stack: &mut [u8], function: &mut F) {
     }
     let top = stack.as_mut_ptr_range().end as usize / 16 * 16;
     // SAFETY: r12, which a call keeps, has the stack pointer meanwhile, so that it ends as it began;
-    // and no panic passes an extern "C" function.
+    // and no panic passes an extern "C" function. The stack has no guard page: a call that needed
+    // more than all of it, some fifty times what a call may need, would write beyond it unseen.
     unsafe {
         asm!(
             "mov r12, rsp",

@@ -13,13 +13,19 @@ const RED_ZONE: usize = 128;
 /// What the archive takes from the C library. They call no other function.
 const OF_THE_C_LIBRARY: [&str; 3] = ["memcpy", "memmove", "memset"];
 
-/// What a function may take at once, so that none steps over the page that guards a stack.
+/// What a function may take without touching it, so that none steps over the page that guards a
+/// stack.
 const PAGE: usize = 4_096;
 
 #[derive(Default)]
 struct Function {
     frame: usize,
+    /// What it has taken by `sub` since a page was last touched. A `push` touches what it takes.
+    untouched: usize,
     calls: BTreeSet<String>,
+    /// The places in .rodata that it names.
+    constants: BTreeSet<String>,
+    jumps_by_pointer: bool,
 }
 
 /// The archive's functions by name.
@@ -42,14 +48,24 @@ impl Code {
                 function = code.0.entry(name.to_string()).or_default();
             } else if let Some((_, relocation)) = line.split_once("R_X86_64_") {
                 let (_, target) = relocation.split_once('\t').expect("a target");
-                if !target.starts_with(".rodata") {
+                if target.starts_with(".rodata") {
+                    function.constants.insert(target.to_string());
+                } else {
                     let name = target.strip_suffix("-0x4").expect("a function's start");
                     let name = name.strip_prefix(".text.").unwrap_or(name);
                     function.calls.insert(name.to_string());
                 }
             } else if let Some((_, instruction)) = line.split_once(":\t") {
-                function.frame += taken_by(instruction.trim_end());
+                function.follow(instruction.trim_end());
             }
+        }
+        for (name, function) in &code.0 {
+            // Its jump table, in the section that has its name.
+            let table = format!(".rodata.{name}-0x4");
+            assert!(
+                !function.jumps_by_pointer || function.constants.contains(&table),
+                "{name} jumps by a pointer and has no jump table"
+            );
         }
         code
     }
@@ -74,24 +90,33 @@ impl Code {
     }
 }
 
-/// How many bytes of the stack an instruction takes, if any. What a function takes anywhere counts
-/// as its frame, whatever it has given back before.
-fn taken_by(instruction: &str) -> usize {
-    let (name, operands) = instruction.split_once(' ').unwrap_or((instruction, ""));
-    let operands = operands.trim_start();
-    match (name, operands.strip_suffix(",%rsp").map(constant)) {
-        ("push", _) => 8,
-        ("sub", Some(Some(bytes))) => {
-            assert!(bytes <= PAGE, "a guard page can be passed: {instruction}");
-            bytes
+impl Function {
+    /// Counts what an instruction takes of the stack. What a function takes anywhere counts as its
+    /// frame, whatever it has given back before.
+    fn follow(&mut self, instruction: &str) {
+        let (name, operands) = instruction.split_once(' ').unwrap_or((instruction, ""));
+        let operands = operands.trim_start();
+        if self.untouched == PAGE {
+            let touched = operands.ends_with(",(%rsp)");
+            assert!(touched, "a page is not touched before {instruction}");
+            self.untouched = 0;
         }
-        ("add", Some(Some(_))) | ("cmp" | "test", Some(_)) => 0,
-        (_, Some(_)) => panic!("a frame of no fixed size: {instruction}"),
-        ("call", _) => {
-            assert!(!operands.starts_with('*'), "a call by a pointer");
-            0
+        match (name, operands.strip_suffix(",%rsp").map(constant)) {
+            ("push", _) => self.frame += 8,
+            ("sub", Some(Some(bytes))) => {
+                self.frame += bytes;
+                self.untouched += bytes;
+                let within = self.untouched <= PAGE;
+                assert!(within, "a guard page can be passed: {instruction}");
+            }
+            ("add", Some(Some(_))) => {}
+            (_, Some(_)) => panic!("a frame of no fixed size: {instruction}"),
+            ("jmp", _) if operands.starts_with('*') => self.jumps_by_pointer = true,
+            _ => assert!(
+                !operands.contains('*'),
+                "a call by a pointer: {instruction}"
+            ),
         }
-        _ => 0,
     }
 }
 
