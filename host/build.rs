@@ -35,8 +35,9 @@ fn named_archive(archive: PathBuf) -> PathBuf {
     archive
 }
 
-/// The archive that `rt` writes. `rt check` proves what it is made of, several crates at a time;
-/// `rt staticlib` alone would take them one by one.
+/// The archive that `rt` writes. `rt check` proves what it is made of, several crates at a time
+/// (`rt staticlib` alone would take them one by one), and that the exports meet the demands: the
+/// crate `tied`.
 fn proved_archive(package: &Path) -> PathBuf {
     let root = package.join("..");
     println!("cargo:rerun-if-changed={}", root.join("crates").display());
@@ -44,21 +45,21 @@ fn proved_archive(package: &Path) -> PathBuf {
         "cargo:rerun-if-changed={}",
         root.join("crates.txt").display()
     );
-    run_rt(&root, "check");
-    run_rt(&root, "staticlib");
+    run_rt(&root, "check", "tied");
+    run_rt(&root, "staticlib", "beaker");
     root.join("target/staticlib/libbeaker.a")
 }
 
-/// Runs a command of `rt` on the exported crate.
-fn run_rt(root: &Path, command: &str) {
+/// Runs a command of `rt` on a crate.
+fn run_rt(root: &Path, command: &str, of: &str) {
     match Command::new("rt")
-        .args([command, "beaker"])
+        .args([command, of])
         .current_dir(root)
         .status()
     {
         Ok(status) if status.success() => {}
         Ok(status) => fail(&format!(
-            "`rt {command} beaker` did not prove the kernel ({status}); what it said stands above"
+            "`rt {command} {of}` did not prove the kernel ({status}); what it said stands above"
         )),
         Err(e) => fail(&format!(
             "`rt` of the Rattle kit cannot be run ({e}). Put it on the path, or let \

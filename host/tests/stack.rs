@@ -35,7 +35,8 @@ fn the_header_and_the_promises_name_the_bound() {
 }
 
 /// The benchmarks' calls, which succeed on tables of 1,024 records and with the greatest series and
-/// codes, and the vectors', which give every answer and go up to the longest message.
+/// codes, and the vectors', which give every answer but 66 e8 and go up to the
+/// longest message.
 #[test]
 fn no_call_uses_more() {
     let mut stack = vec![PATTERN; ROOM];
@@ -93,7 +94,7 @@ fn row_of_message(message: &[u8]) -> &'static str {
         Some(5) => "Delete",
         Some(6) => "Set Entry",
         Some(7) => "Write",
-        _ => "a message of no type",
+        _ => "an empty or unknown message",
     }
 }
 

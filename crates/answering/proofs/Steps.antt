@@ -16,7 +16,7 @@ use Rattle.rules.specs.declared.Answer.{Answer as Case}
 use Rattle.rules.specs.declared.Answer.the-variants.{Refused, Done, Called, Registered, Looked}
 use Rattle.rules.specs.declared.Reply.{Reply}
 use Rattle.results.specs.Results.{Gives}
-use Rattle.demands.proofs.Demand2.{own-payload}
+use Rattle.laws.proofs.OwnPayload.{own-payload}
 use Rattle.payloads.specs.Payloads.{PayloadPromise}
 use Rattle.digits.specs.Decoding.{said, Decodes}
 use Rattle.digits.specs.declared.Line.{Line}

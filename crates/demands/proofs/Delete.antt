@@ -8,10 +8,9 @@ use mathlib.Core.Logic.{_≢_}
 use mathlib.Core.Bool.{true, false, true≢false}
 use Rattle.rules.specs.Table.{Store, get, puts, Ascending}
 use Rattle.rules.specs.KernelStorage.{inKernelStorage, slot, ending, indexSlot, lengthSlot, placeSlot}
-use Rattle.rules.specs.Procedures.{listLength, keyAt, indexOf, current, entryKey, InList, Listed}
+use Rattle.rules.specs.Procedures.{keyAt, current, entryKey, InList, Listed, Kept}
 use Rattle.rules.specs.Sound.{Belongs, index, listLengthHere, place, Sound}
 use Rattle.rules.specs.Calls.{ofProcedure, afterDelete}
-use Rattle.rules.specs.Demands.{Kept}
 use Rattle.laws.proofs.Bools.{decide-false}
 use Rattle.rules.proofs.Lists.{_also_}
 use Rattle.laws.proofs.Stores.{puts-ascending, Misses, get-puts-other, hit-or-miss}

@@ -8,9 +8,9 @@ use borrow.Author.Tests.{eqb-true, ltb-false}
 use Rattle.rules.specs.Words.{keyBytes, addressBytes, Bytes, AllBytes, num}
 use Rattle.rules.specs.Table.{bytes, room, lengthFits}
 use Rattle.rules.specs.Sound.{IsKey, IsAddress}
-use Rattle.rules.specs.Answers.{ed, ef, e4, e7, fields, _⇒_, outcome}
+use Rattle.rules.specs.Answers.{ed, ef, e4, e7, fields, succeeds, _⇒_, outcome}
 use Rattle.rules.specs.Calls.{wrongBytes, isZero, noRoom, fresh, setUpRow, setUp}
-use Rattle.rules.specs.Demands.{settingUp, LentBytes, succeeds}
+use Rattle.demands.specs.Kernels.{settingUp, LentBytes}
 use Rattle.laws.proofs.Numbers.{non-zero}
 use Rattle.laws.proofs.Words.{num-fits}
 use Rattle.laws.proofs.Rows.{member, passed-not, judge-cases}
@@ -44,10 +44,10 @@ fresh-good t {k} {a} {ka} given fits enough =
     })
     (fresh-sized given)
 
-pub setUp-good : (t k a ka : Bytes) → LentBytes (settingUp k a ka) → succeeds (setUp t k a ka) ≡ true → GoodTable (setUp t k a ka .table)
+pub setUp-good : (t k a ka : Bytes) → LentBytes (settingUp k a ka) → succeeds (setUp t k a ka .answer) ≡ true → GoodTable (setUp t k a ka .table)
 unfolding setUp setUpRow outcome succeeds fields
 setUp-good t k a ka lent =
-    judge-cases (λ r. succeeds (outcome t r) ≡ true → GoodTable (outcome t r .table)) _ _
+    judge-cases (λ r. succeeds (outcome t r .answer) ≡ true → GoodTable (outcome t r .table)) _ _
     (λ check i e h. absurd (true≢false (sym h)))
     (λ ps h. fresh-good t
     (record {

@@ -9,9 +9,8 @@ use mathlib.Core.Bool.{true}
 use lib.Dec.{lit<}
 use Rattle.rules.specs.Table.{Store, get}
 use Rattle.rules.specs.KernelStorage.{inKernelStorage, slot, ending, indexSlot, lengthSlot, placeSlot, kernelAddressSlot, currentSlot, entrySlot}
-use Rattle.rules.specs.Procedures.{listLength, keyAt, indexOf, kernelAddress, current, entryKey, InList, Listed}
+use Rattle.rules.specs.Procedures.{listLength, keyAt, indexOf, kernelAddress, current, entryKey, InList, Listed, Kept}
 use Rattle.rules.specs.Sound.{Belongs, currentHere, entryHere, Sound}
-use Rattle.rules.specs.Demands.{Kept}
 use Rattle.laws.proofs.Numbers.{same-or-not}
 use Rattle.laws.proofs.Slots.{Fits, slot-inKernelStorage, regions-apart, fixed, inProcedure, one-end}
 use Rattle.laws.proofs.Places.{placeSoundOf, soundFrom, Came, came-sound, came-kept, belongs-carried}

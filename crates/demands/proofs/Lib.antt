@@ -10,8 +10,8 @@ pub mod Step
 pub mod EachCall
 pub mod FirstTable
 pub mod Demand1
+pub mod OwnMessage
 pub mod Demand2
 pub mod Demand3
-pub mod Lent
-pub mod StandInsDemand2
-pub mod StandInsDemand3
+pub mod Computing
+pub mod Worked

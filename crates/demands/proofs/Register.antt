@@ -11,11 +11,10 @@ use Rattle.rules.specs.Words.{Every}
 use Rattle.rules.specs.Table.{Store, Record, _holds_, get, Ascending}
 use Rattle.rules.specs.KernelStorage.{inKernelStorage, slot, ending, addressSlot, indexSlot, lengthSlot, placeSlot, kernelAddressSlot, currentSlot, entrySlot}
 use Rattle.rules.specs.Capabilities.{Kind, kinds, prefixInRange}
-use Rattle.rules.specs.Procedures.{listLength, keyAt, addressOf, indexOf, kernelAddress, current, entryKey, held, InList, Listed}
+use Rattle.rules.specs.Procedures.{listLength, keyAt, addressOf, indexOf, kernelAddress, current, entryKey, held, InList, Listed, Kept}
 use Rattle.rules.specs.Sound.{IsAddress, Belongs, address, index, listLengthHere, place, Sound}
 use Rattle.rules.specs.Messages.{Request, requestedOf}
 use Rattle.rules.specs.Calls.{afterRegister}
-use Rattle.rules.specs.Demands.{Kept}
 use Rattle.rules.proofs.Lists.{_also_}
 use Rattle.laws.proofs.Numbers.{same-or-not}
 use Rattle.laws.proofs.Lists.{every-map}

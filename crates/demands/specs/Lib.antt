@@ -1,1 +1,3 @@
-pub mod StandIns
+pub mod Kernels
+pub mod Demands
+pub mod Worked

@@ -1,1 +1,1 @@
-// The three demands, proved of every kernel that meets the second; there is no code here.
+// The three demands, stated of any kernel; the first and the third are proved of every kernel that meets the second. There is no code here.

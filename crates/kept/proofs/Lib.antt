@@ -1,4 +1,1 @@
-pub mod Demanded
-pub mod ReadBack
-pub mod Inside
-pub mod Exported
+pub mod Functions

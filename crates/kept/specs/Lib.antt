@@ -1,2 +1,1 @@
-pub mod Demanded
-pub mod Exported
+pub mod Functions

@@ -1,1 +1,1 @@
-// The promises of `kernel` and of `beaker` meet the three demands: theorems of any functions that keep them, with no code of its own.
+// The promises of `kernel` meet the three demands: theorems of any functions that keep them, with no code of its own.

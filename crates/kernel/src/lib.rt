@@ -29,15 +29,15 @@ pub fn set_up(t: &mut [u8], key: &[u8], address: &[u8], kernel_address: &[u8]) -
 }
 
 // Turn: the host names the running procedure.
-pub fn turn(t: &mut [u8], key: &[u8]) -> Reply
-    ensures { λ r. ⌜ TurnPromise (now (t .entry)) (now (key .entry)) r (now (t .exit)) ⌝ }
+pub fn turn(t: &mut [u8], running: &[u8]) -> Reply
+    ensures { λ r. ⌜ TurnPromise (now (t .entry)) (now (running .entry)) r (now (t .exit)) ⌝ }
 {
-    if key.len() != rules::KEY_BYTES {
+    if running.len() != rules::KEY_BYTES {
         return Reply::refused(Refusal::WRONG_BYTES);
     }
     match soundness::sound(t) {
         Soundness::Unsound => Reply::refused(Refusal::UNSOUND),
-        Soundness::Sound(used) => turning::turn_to(t, used, key),
+        Soundness::Sound(used) => turning::turn_to(t, used, running),
     }
 }
 

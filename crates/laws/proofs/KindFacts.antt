@@ -10,12 +10,11 @@ use mathlib.Core.Bool.{Bool, true, false, true≢false}
 use lib.Dec.{eqb}
 use lib.ListN.{drop}
 use borrow.Author.Tests.{eqb-true}
-use Rattle.rules.specs.Words.{Every}
+use Rattle.rules.specs.Words.{Every, OneOf}
 use Rattle.rules.specs.Capabilities.{kindAmong, Kind, call, register, delete, setEntry, write, number, wordCount, kinds, kindOf}
 use Rattle.rules.specs.Sound.{allOf, anyOf}
 use Rattle.rules.specs.Messages.{named, kindOrUnknown, ofKind, null, unknown}
 use Rattle.rules.specs.Source.{wordsOf}
-use Rattle.rules.specs.Demands.{OneOf}
 use Rattle.laws.proofs.Lists.{every-one, all-true, every-all, every-in, any-false}
 
 -- The list of types: each is in it, so that what holds of all of the list holds of each.

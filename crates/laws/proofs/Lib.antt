@@ -13,6 +13,7 @@ pub mod KindFacts
 pub mod Slots
 pub mod Tables
 pub mod Rows
+pub mod OwnPayload
 pub mod Records
 pub mod Among
 pub mod Places

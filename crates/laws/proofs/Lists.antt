@@ -7,9 +7,8 @@ use mathlib.Core.Logic.{_≢_, _⊎_, inl, inr}
 use mathlib.Core.List.{List, [], _∷_}
 use mathlib.Core.Bool.{Bool, true, false, true≢false, _&&_}
 use lib.ListN.{take, drop, replicate}
-use Rattle.rules.specs.Words.{Every}
+use Rattle.rules.specs.Words.{Every, OneOf}
 use Rattle.rules.specs.Sound.{allOf, anyOf, allPlaces}
-use Rattle.rules.specs.Demands.{OneOf}
 pub use Rattle.rules.proofs.Lists.{every-append}
 use Rattle.laws.proofs.Bools.{and-left, and-right, and-both, or-left, or-right, or-first, or-second, _or_, if-and, if-or, tests-true}
 use Rattle.laws.proofs.Numbers.{same-or-not}

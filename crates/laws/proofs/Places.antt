@@ -10,11 +10,10 @@ use lib.Dec.{lit<}
 use Rattle.rules.specs.Table.{Store, get}
 use Rattle.rules.specs.KernelStorage.{inKernelStorage, slot, ending, addressSlot, indexSlot, countSlot, wordSlot, lengthSlot, placeSlot, kernelAddressSlot, currentSlot, entrySlot}
 use Rattle.rules.specs.Capabilities.{Kind, number, wordCount, prefixInRange}
-use Rattle.rules.specs.Procedures.{listLength, keyAt, addressOf, indexOf, countOf, kernelAddress, current, entryKey, wordsFrom, capability, capabilitiesFrom, held, InList, Listed}
+use Rattle.rules.specs.Procedures.{listLength, keyAt, addressOf, indexOf, countOf, kernelAddress, current, entryKey, wordsFrom, capability, capabilitiesFrom, held, InList, Listed, Kept}
 use Rattle.rules.specs.Sound.{IsKey, IsAddress, Belongs, address, index, count, capabilityWord, listLengthHere, place, kernelAddressHere, currentHere, entryHere, Sound}
 use Rattle.laws.proofs.KindFacts.{number-small, number-least, wordCount-small}
 use Rattle.laws.proofs.Slots.{Fits, slot-middle, regions-apart, fixed, inProcedure, atPlace, zero-end, one-end, ending-fits, ending-one}
-use Rattle.rules.specs.Demands.{Kept}
 
 -- Two stores agree on a procedure: every slot of its region 00 holds the same in both, but for its index (the end 00 00 01),
 -- which alone changes when Delete moves a procedure to another place.

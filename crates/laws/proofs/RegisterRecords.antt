@@ -7,7 +7,7 @@ use mathlib.Core.Logic.{inl, inr}
 use mathlib.Core.List.{List, [], _∷_}
 use mathlib.Core.Bool.{true}
 use lib.ListN.{length}
-use Rattle.rules.specs.Words.{Every}
+use Rattle.rules.specs.Words.{Every, OneOf}
 use Rattle.rules.specs.Table.{Store, _holds_, Ascending}
 use Rattle.rules.specs.KernelStorage.{slot, ending, addressSlot, countSlot, wordSlot, kernelMark}
 use Rattle.rules.specs.Capabilities.{Kind, number, wordCount, Capability, prefixInRange}
@@ -15,7 +15,6 @@ use Rattle.rules.specs.Procedures.{countOf, wordsFrom, capability, capabilities
 use Rattle.rules.specs.Sound.{IsKey, IsAddress, Belongs, count, capabilityWord}
 use Rattle.rules.specs.Messages.{Request, requestedOf}
 use Rattle.rules.specs.Calls.{wordRecords, capabilityRecords, kindRecords}
-use Rattle.rules.specs.Demands.{OneOf}
 use Rattle.laws.proofs.Lists.{every-append}
 use Rattle.laws.proofs.KindFacts.{number-small, wordCount-small, Climbs}
 use Rattle.laws.proofs.Rows.{here, there}

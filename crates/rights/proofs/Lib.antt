@@ -1,1 +1,1 @@
-pub mod ByType
+pub mod ByKind

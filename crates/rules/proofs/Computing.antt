@@ -9,10 +9,9 @@ use Rattle.rules.specs.Procedures.{listLength, keyAt, addressOf, indexOf
 use Rattle.rules.specs.Sound.{allOf, anyOf, allPlaces, isKey, isAddress, kindSound, placeSound, wordBelongs, kindBelongs, procedureBelongs, ofListedProcedure, placeBelongs, fixedBelongs, belongs, recordBelongs, sound, soundTable}
 use Rattle.rules.specs.Messages.{typeOf, dataOf, kindOrUnknown, named, minimum, openEnded, overlong, indexWord, keyWord, addressWord, writeAddress, writeValue, payloadOf, keyTooLong, addressTooLong, leadingBytes, requestOf, requestAt, addRequest, seriesFrom, series, seriesOf, malformed, orEmpty, requests, sameKind, requestedOf}
 use Rattle.rules.specs.Validation.{allowed, dataBytes, walk, passes}
-use Rattle.rules.specs.Answers.{codeNumber, codeBytes, fields, judge, outcome}
-use Rattle.rules.specs.Calls.{wrongBytes, isZero, noRoom, wordRecords, capabilityRecords, kindRecords, afterRegister, firstCapabilities, fixedRecords, fresh, setUpRow, setUp, turnRow, turn, lookRow, look, indexOutOfRange, chosen, notCovering, callRow, setEntryRow, ofProcedure, withoutProcedure, afterDelete, deleteRow, writeRow, contained, testsIn, tests, tooMany, registerRow, kindRow, namedRow, systemRow, systemCall}
+use Rattle.rules.specs.Answers.{codeNumber, codeBytes, fields, succeeds, judge, outcome}
+use Rattle.rules.specs.Calls.{wrongBytes, isZero, noRoom, wordRecords, capabilityRecords, kindRecords, afterRegister, firstCapabilities, fixedRecords, fresh, setUpRow, setUp, turnRow, turn, lookRow, look, indexOutOfRange, chosen, notCovering, callRow, setEntryRow, ofProcedure, withoutProcedure, afterDelete, deleteRow, writeRow, contained, testsIn, tests, tooMany, registerRow, ownRow, formatRow, namedRow, systemRow, systemCall}
 use Rattle.rules.specs.Program.{lastLine, linesFrom, lines, digitOf, byteBefore, digits, messageOf, hexDigit, hex, decimalBefore, decimal, spaced, printed, programTable, programCode, programMask, answersFrom, program}
-use Rattle.rules.specs.Demands.{perform, succeeds, registrar, tableAfter, registers, lastRegistered}
 
 unfoldable computing-words : Unit {0}
 unfolding numAfter num bytesBefore bytesOf word wordAt words sameBytes
@@ -47,21 +46,17 @@ unfolding allowed dataBytes walk passes
 computing-validation = tt
 
 unfoldable computing-answers : Unit {0}
-unfolding codeNumber codeBytes fields judge outcome
+unfolding codeNumber codeBytes fields succeeds judge outcome
 computing-answers = tt
 
 unfoldable computing-calls : Unit {0}
-unfolding wrongBytes isZero noRoom wordRecords capabilityRecords kindRecords afterRegister firstCapabilities fixedRecords fresh setUpRow setUp turnRow turn lookRow look indexOutOfRange chosen notCovering callRow setEntryRow ofProcedure withoutProcedure afterDelete deleteRow writeRow contained testsIn tests tooMany registerRow kindRow namedRow systemRow systemCall
+unfolding wrongBytes isZero noRoom wordRecords capabilityRecords kindRecords afterRegister firstCapabilities fixedRecords fresh setUpRow setUp turnRow turn lookRow look indexOutOfRange chosen notCovering callRow setEntryRow ofProcedure withoutProcedure afterDelete deleteRow writeRow contained testsIn tests tooMany registerRow ownRow formatRow namedRow systemRow systemCall
 computing-calls = tt
 
 unfoldable computing-program : Unit {0}
 unfolding lastLine linesFrom lines digitOf byteBefore digits messageOf hexDigit hex decimalBefore decimal spaced printed programTable programCode programMask answersFrom program
 computing-program = tt
 
-unfoldable computing-demands : Unit {0}
-unfolding perform succeeds registrar tableAfter registers lastRegistered
-computing-demands = tt
-
 unfoldable pub computing : Unit {0}
-unfolding computing-words computing-table computing-kernelStorage computing-capabilities computing-procedures computing-sound computing-messages computing-validation computing-answers computing-calls computing-program computing-demands
+unfolding computing-words computing-table computing-kernelStorage computing-capabilities computing-procedures computing-sound computing-messages computing-validation computing-answers computing-calls computing-program
 computing = tt

@@ -114,7 +114,7 @@ P1-to-P11 = p1 also p2 also p3 also p4 also p5 also p6 also p7 also p8 also p9 a
 -- what a row of checks comes to that refuses; that a row does is computed
 refuses : (t : Bytes) (code : Refusal) → Refuses (codeBytes (codeNumber code)) t (outcome t (refuse code))
 unfolding fields outcome
-refuses t code = record { nothingElse = refl; asLent = refl }
+refuses t code = record { fieldsAre = refl; asLent = refl }
 
 bytes-are-numbers : BytesAreNumbers
 unfolding computing

@@ -15,8 +15,8 @@ use borrow.Author.Tests.{ltb-true, ltb-false, lt-ltb, le-ltb, ne-eqb, le-leb, lt
 use Rattle.rules.specs.Words.{Bytes, num, numAfter}
 use Rattle.rules.specs.Capabilities.{Kind, call, register, delete, setEntry, write, kinds, number, kindAmong, kindOf, wordCount, greatestWords}
 use Rattle.rules.specs.Messages.{payloadAt, openEnded, dataOf, payloadOf}
-use Rattle.rules.specs.Answers.{codeBytes, Answer, refused, done, called, registered, looked, fields}
-use Rattle.rules.specs.Source.{isType, wordsOf, openEndedOf, HasWords, refusedReply, replyOf, OwnPayload, fieldsWith, fieldsOf}
+use Rattle.rules.specs.Answers.{Refusal, ed, ef, e0, ea, aa, eb, e6, e4, x33, e9, e5, x77, e1, e2, e3, x6633, e8, e7, refusals, codeNumber, codeBytes, Answer, refused, done, called, registered, looked, fields}
+use Rattle.rules.specs.Source.{refusalAmong, isType, wordsOf, openEndedOf, HasWords, refusedReply, replyOf, OwnPayload, fieldsWith, fieldsOf}
 use Rattle.rules.specs.declared.Answer.{Answer as Case}
 use Rattle.rules.specs.declared.Answer.the-variants.{Refused, Done, Called, Registered, Looked}
 use Rattle.rules.specs.declared.Reply.{Reply}
@@ -164,3 +164,25 @@ refused-only Looked a v m c e = absurd (omega (arith, ap (λ f. f .flag) e))
 pub refusal-apart : (r : Reply) (m : Bytes) (c : ℕ) → fieldsOf r m ≡ fieldsOf (refusedReply c) m → r ≡ refusedReply c
 unfolding fieldsOf
 refusal-apart r m c e = refused-only (r .answer) (r .address) (r .value) m c e
+
+-- a code is found by its number
+pub refusal-back : (c : Refusal) → refusalAmong refusals (codeNumber c) ≡ c
+unfolding refusalAmong codeNumber
+refusal-back ed = refl
+refusal-back ef = refl
+refusal-back e0 = refl
+refusal-back ea = refl
+refusal-back aa = refl
+refusal-back eb = refl
+refusal-back e6 = refl
+refusal-back e4 = refl
+refusal-back x33 = refl
+refusal-back e9 = refl
+refusal-back e5 = refl
+refusal-back x77 = refl
+refusal-back e1 = refl
+refusal-back e2 = refl
+refusal-back e3 = refl
+refusal-back x6633 = refl
+refusal-back e8 = refl
+refusal-back e7 = refl

@@ -2,7 +2,7 @@
 use Prim.Native.Nat.{ℕ, _/_, _%_}
 use mathlib.Core.List.{List, [], _∷_}
 use mathlib.Core.Bool.{Bool, true, false}
-use lib.Dec.{ltb}
+use lib.Dec.{eqb, ltb}
 use lib.ListN.{length, replicate}
 use Rattle.rules.specs.Words.{addressBytes, wordBytes, Bytes}
 use Rattle.rules.specs.Table.{Store, bytes}
@@ -96,6 +96,9 @@ fields done = record { flag = 1; code = []; tests = 0; address = noAddress; payl
 fields (called a p) = record { flag = 1; code = []; tests = 0; address = a; payload = p; value = noValue }
 fields (registered n) = record { flag = 1; code = []; tests = n; address = noAddress; payload = []; value = noValue }
 fields (looked v) = record { flag = 1; code = []; tests = 0; address = noAddress; payload = []; value = v }
+
+unfoldable pub succeeds : Answer → Bool
+succeeds a = eqb (fields a .flag) 1
 
 -- What a call comes to: refused; answered with nothing changed; or answered with the store afterwards.
 pub data Result : Type 0 where

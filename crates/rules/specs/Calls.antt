@@ -243,46 +243,56 @@ registerEffect s d n = change (registered n) (afterRegister s (keyWord d) (addre
 
 -- The row of a message's own type.
 -- "Every system call is given message, code and mask; only Register uses what the last two hold."
-unfoldable pub kindRow : (rooms : ℕ) → Store → (d code mask : Bytes) → Kind → List Check
-kindRow rooms s d code mask call = callRow s d
-kindRow rooms s d code mask register = registerRow rooms s d code mask
-kindRow rooms s d code mask delete = deleteRow s d
-kindRow rooms s d code mask setEntry = setEntryRow s d
-kindRow rooms s d code mask write = writeRow rooms s d
+unfoldable pub ownRow : (rooms : ℕ) → Store → (d code mask : Bytes) → Kind → List Check
+ownRow rooms s d code mask call = callRow s d
+ownRow rooms s d code mask register = registerRow rooms s d code mask
+ownRow rooms s d code mask delete = deleteRow s d
+ownRow rooms s d code mask setEntry = setEntryRow s d
+ownRow rooms s d code mask write = writeRow rooms s d
 
-abbrev pub kindEffect : Store → (d : Bytes) → Kind → Result
-kindEffect s d call = callEffect s d
-kindEffect s d register = registerEffect s d (tests s (requests d))
-kindEffect s d delete = deleteEffect s d
-kindEffect s d setEntry = setEntryEffect s d
-kindEffect s d write = writeEffect s d
+abbrev pub ownEffect : Store → (d : Bytes) → Kind → Result
+ownEffect s d call = callEffect s d
+ownEffect s d register = registerEffect s d (tests s (requests d))
+ownEffect s d delete = deleteEffect s d
+ownEffect s d setEntry = setEntryEffect s d
+ownEffect s d write = writeEffect s d
 
 -- what is left of a system call at its type's own row
 abbrev pub doKind : (rooms : ℕ) → Store → (d code mask : Bytes) → Kind → Result
-doKind rooms s d code mask kind = kindRow rooms s d code mask kind then kindEffect s d kind
+doKind rooms s d code mask kind = ownRow rooms s d code mask kind then ownEffect s d kind
 
--- "aa, then Null succeeds; short data; e6; then" the row of the message's own type; and, of document 02, No. 1:
--- "66 eb, directly after short data and before 66 e6; for Null, where it would have succeeded." Null's format has no data.
-unfoldable pub namedRow : (rooms : ℕ) → Store → (d code mask : Bytes) → Named → List Check
-namedRow rooms s d code mask null = ltb 0 (length d) ⇒ eb ∷ []
-namedRow rooms s d code mask unknown = true ⇒ aa ∷ []
-namedRow rooms s d code mask (ofKind kind) =
+-- "short data; e6"; and, of document 02, No. 1: "66 eb, directly after short data and before 66 e6"
+unfoldable pub formatRow : (d : Bytes) → Kind → List Check
+formatRow d kind =
     ltb (length d) (minimum kind) ⇒ e0
     ∷ overlong kind d ⇒ eb
     ∷ leadingBytes kind d ⇒ e6
-    ∷ kindRow rooms s d code mask kind
+    ∷ []
+
+-- "aa, then Null succeeds; short data; e6; then" the row of the message's own type. Null's format has no data, and 66 eb is judged "for
+-- Null, where it would have succeeded".
+abbrev pub unknownRow : List Check
+unknownRow = true ⇒ aa ∷ []
+
+abbrev pub nullRow : (d : Bytes) → List Check
+nullRow d = ltb 0 (length d) ⇒ eb ∷ []
+
+unfoldable pub namedRow : (rooms : ℕ) → Store → (d code mask : Bytes) → Named → List Check
+namedRow rooms s d code mask null = nullRow d
+namedRow rooms s d code mask unknown = unknownRow
+namedRow rooms s d code mask (ofKind kind) = formatRow d kind ++ ownRow rooms s d code mask kind
 
 -- an unknown type is always refused, so the effect that stands for it here is never reached
 abbrev pub namedEffect : Store → (d : Bytes) → Named → Result
 namedEffect s d null = answer done
 namedEffect s d unknown = answer done
-namedEffect s d (ofKind kind) = kindEffect s d kind
+namedEffect s d (ofKind kind) = ownEffect s d kind
 
 -- what is left of a system call at its message's type
 abbrev pub doNamed : (rooms : ℕ) → Store → (d code mask : Bytes) → Named → Result
 doNamed rooms s d code mask n = namedRow rooms s d code mask n then namedEffect s d n
 
--- "System calls: ef, empty, ea, aa": "every system call judges the mask's length"
+-- "System calls: ef, empty, ea,": "every system call judges the mask's length"
 unfoldable pub systemRow : (table message mask : Bytes) → List Check
 systemRow t m mask =
     wrongBytes wordBytes mask ⇒ ed
@@ -291,8 +301,9 @@ systemRow t m mask =
     ∷ ltb greatestMessage (length m) ⇒ ea
     ∷ []
 
+-- all checks of a system call, in order: those of every system call, then what its type names
+abbrev pub wholeRow : (table message code mask : Bytes) → List Check
+wholeRow t m code mask = systemRow t m mask ++ namedRow (room t) (store t) (dataOf m) code mask (named (typeOf m))
+
 unfoldable pub systemCall : (table message code mask : Bytes) → Outcome
-systemCall t m code mask =
-    outcome t (
-    systemRow t m mask ++ namedRow (room t) (store t) (dataOf m) code mask (named (typeOf m))
-    then namedEffect (store t) (dataOf m) (named (typeOf m)))
+systemCall t m code mask = outcome t (wholeRow t m code mask then namedEffect (store t) (dataOf m) (named (typeOf m)))

@@ -234,7 +234,7 @@ firstRecords k a ka =
 
 -- "A refusal is flag 0 with these bytes, no other result, and a table equal byte for byte to the one lent."
 pub record Refuses (codeBytes table : Bytes) (o : Outcome) : Type 0 where
-  pub nothingElse :
+  pub fieldsAre :
       fields (o .answer) ≡ record { flag = 0; code = codeBytes; tests = 0; address = noAddress; payload = []; value = noValue }
   pub asLent : o .table ≡ table
 

@@ -9,6 +9,5 @@ pub mod Validation
 pub mod Answers
 pub mod Calls
 pub mod Program
-pub mod Demands
 pub mod Source
 pub mod Examples

@@ -69,3 +69,9 @@ module _ (s : Store) where
   -- was found sound.
   unfoldable pub listed : ℕ → Bool
   listed p = leb 1 (indexOf p) && leb (indexOf p) listLength && eqb (keyAt (indexOf p)) p
+
+-- a procedure of s′ that was listed in s, with the same address, and holds what it held
+pub record Kept (s s′ : Store) (p : ℕ) : Type 0 where
+  pub was : Listed s p
+  pub address : addressOf s′ p ≡ addressOf s p
+  pub holds : (kind : Kind) → held s′ p kind ≡ held s p kind

@@ -2,9 +2,10 @@
 -- each case of a reply means in document 01. Last, the numbers that the source names.
 use Prim.Native.Nat.{ℕ, _≤_}
 use mathlib.Core.Path.{_≡_}
-use mathlib.Core.List.{[], _∷_, map}
+use mathlib.Core.List.{List, [], _∷_, map}
 use mathlib.Core.Bool.{Bool, true, false}
 use mathlib.Core.Option.{none, some}
+use lib.Dec.{eqb}
 use Rattle.rules.specs.Words.{keyBytes, addressBytes, wordBytes, Bytes, bytesOf}
 use Rattle.rules.specs.Table.{recordSize, greatestTable}
 use Rattle.rules.specs.KernelStorage.{kernelMark}
@@ -12,7 +13,7 @@ use Rattle.rules.specs.Capabilities.{Kind, kinds, number, kindOf, wordCo
 use Rattle.rules.specs.Sound.{greatestCount}
 use Rattle.rules.specs.Messages.{greatestMessage, dataOf, payloadAt, seriesAt, minimum, openEnded, payloadOf}
 use Rattle.rules.specs.Validation.{greatestCode}
-use Rattle.rules.specs.Answers.{refusals, codeNumber, codeBytes, Answer, refused, done, called, registered, looked, Fields, noAddress, noValue}
+use Rattle.rules.specs.Answers.{Refusal, ed, refusals, codeNumber, codeBytes, Answer, refused, done, called, registered, looked, Fields, noAddress, noValue}
 use Rattle.rules.specs.Calls.{greatestList}
 use Rattle.rules.specs.declared.Answer.{Answer as Case}
 use Rattle.rules.specs.declared.Answer.the-variants.{Refused, Done, Called, Registered, Looked}
@@ -51,6 +52,11 @@ replyOf done = record { answer = Done; address = noAddress; value = noValue }
 replyOf (called address payload) = record { answer = Called; address = address; value = noValue }
 replyOf (registered tests) = record { answer = Registered tests; address = noAddress; value = noValue }
 replyOf (looked value) = record { answer = Looked; address = noAddress; value = value }
+
+-- the refusal that has a number as its code; no promised reply has a number that is no code
+unfoldable pub refusalAmong : List Refusal → ℕ → Refusal
+refusalAmong [] n = ed
+refusalAmong (c ∷ cs) n = elim (eqb n (codeNumber c)) [ true ↦ c | false ↦ refusalAmong cs n ]
 
 -- what the reply to a message leaves to the message: a Call's payload is the caller's own
 abbrev pub OwnPayload : (message : Bytes) → Answer → Type 0

@@ -11,8 +11,16 @@
 --   elim (test) [ true ↦ a | false ↦ b ]    a if the test holds, otherwise b
 --   elim (o) [ none ↦ a | some x ↦ b ]      a if there is none, otherwise b, of the x that there is
 --   eqb, ltb, leb      the tests: equal, less, less or equal
+--   not a, a && b, a || b                   the tests: a does not hold; both hold; one of the two holds
+--   A ↔ B              A exactly if B
 --   x ∷ xs, xs ++ ys   first x, then the list xs; first the list xs, then the list ys. The list [] is empty.
---   r .name            the part of r that has this name
+--   take n xs, drop n xs                    the first n of the list xs; what follows them
+--   r .name            the part of r that has this name; `record` gives all parts, `data` lists the cases
+--   ℕ, suc n, 0x8005   the whole numbers from 0 on; n + 1; a number in hex
+--   s′                 another s, as it is after a call, say
+--   module _ (s : Store) where              what is indented below is said of any store s
+--   condition ⇒ code, row then result       a check, and a row of checks with what it comes to: see Answers
+--   use, mod, infix, abbrev, unfoldable, pub, {x : A}, Type 0       for the prover; a reader may skip them
 --   x / 256 ^ n        drops the last n bytes of x
 --   x % 256 ^ n        keeps them
 --   x / 2 ^ n          drops the last n bits of x
@@ -21,11 +29,14 @@
 --
 -- Some sentences have a test of the same name in lower case: `RecordForm` and `recordForm`, `Ascending` and `ascending`, `Listed`
 -- and `listed`, `IsKey` and `isKey`, `IsAddress` and `isAddress`, `Belongs` and `belongs`, `Sound` and `sound`, `SoundTable` and
--- `soundTable`. The calls use the tests; the laws show that test and sentence say the same.
+-- `soundTable`. The calls use the tests; the laws show that test and sentence say the same, of `listed` and `Listed` in a
+-- sound store, which is where the calls ask.
 --
 -- "This statement decides where they differ": where the Beaker texts differ from document 01 or from each other, these files say
 -- what 01 says. What document 02 has changed of it is quoted where it stands.
 use Prim.Native.Nat.{ℕ, zero, suc, _+_, _*_, _/_, _%_, _<_}
+use mathlib.Core.Path.{_≡_}
+use mathlib.Core.Logic.{_⊎_}
 use mathlib.Core.List.{List, [], _∷_}
 use mathlib.Core.Bool.{Bool, true, false}
 use lib.Dec.{eqb}
@@ -48,6 +59,11 @@ Bytes = List ℕ
 abbrev pub Every : {A : Type 0} → (A → Type 0) → List A → Type 0
 Every P [] = Unit {0}
 Every P (x ∷ xs) = P x × Every P xs
+
+-- x is one of a list
+abbrev pub OneOf : {A : Type 0} → A → List A → Type 0
+OneOf x [] = ⊥
+OneOf x (y ∷ ys) = (x ≡ y) ⊎ OneOf x ys
 
 -- what the host lends: each element is a byte
 abbrev pub AllBytes : Bytes → Type 0

@@ -11,7 +11,7 @@ use Rattle.rules.specs.Table.{room, store}
 use Rattle.rules.specs.Capabilities.{Kind, number}
 use Rattle.rules.specs.Messages.{Named as Meaning, null, unknown, ofKind, greatestMessage, dataOf, minimum, overlong, leadingBytes}
 use Rattle.rules.specs.Answers.{aa, e0, eb, e6, codeNumber, done, outcome}
-use Rattle.rules.specs.Calls.{doKind, namedRow, doNamed}
+use Rattle.rules.specs.Calls.{doKind, formatRow, namedRow, doNamed}
 use Rattle.rules.specs.Source.{refusedReply, replyOf, minimumOf, OfType}
 use Rattle.rules.specs.declared.Reply.{Reply}
 use Rattle.rules.specs.declared.Kind.{Kind as Number}
@@ -90,37 +90,37 @@ module _ (t d code mask : Bytes) (m : Meaning) where
   row r t′ = Gives (outcome t (doNamed (room t) (store t) d code mask m)) r t′
 
   pub null-refused : m ≡ null → 0 < length d → {r : Reply} → r ≡ refusedReply (codeNumber eb) → row r t
-  unfolding namedRow
+  unfolding formatRow namedRow
   null-refused q more f = rw (q, refuses (lt-ltb 0 (length d) more)) (refusal t eb f)
 
   pub null-done : m ≡ null → length d ≤ 0 → {r : Reply} → r ≡ replyOf done → row r t
-  unfolding namedRow
+  unfolding formatRow namedRow
   null-done q empty f = rw (q, passes (le-ltb 0 (length d) empty), ends) (answers t done f)
 
   pub unknown-refused : m ≡ unknown → {r : Reply} → r ≡ refusedReply (codeNumber aa) → row r t
-  unfolding namedRow
+  unfolding formatRow namedRow
   unknown-refused q f = rw (q, refuses refl) (refusal t aa f)
 
   module _ {n : ℕ} (named : NamesType m n) {s : Bool} (e : s ≡ ltb (length d) (minimumOf n)) where
     pub short-refused : s ≡ true → {r : Reply} → r ≡ refusedReply (codeNumber e0) → row r t
-    unfolding namedRow
+    unfolding formatRow namedRow
     short-refused q f = rw (named .is, refuses (is-short d named e q)) (refusal t e0 f)
 
     module _ (notShort : s ≡ false) {o : Bool} (v : o ≡ overlongOf n d) where
       pub overlong-refused : o ≡ true → {r : Reply} → r ≡ refusedReply (codeNumber eb) → row r t
-      unfolding namedRow
+      unfolding formatRow namedRow
       overlong-refused q f = rw (named .is, passes (is-short d named e notShort), refuses (is-overlong d named v q)) (refusal t eb f)
 
       module _ (notOverlong : o ≡ false) {l : Bool} (g : OfType n (λ k. l ≡ leadingBytes k d)) where
         pub leading-refused : l ≡ true → {r : Reply} → r ≡ refusedReply (codeNumber e6) → row r t
-        unfolding namedRow
+        unfolding formatRow namedRow
         leading-refused q f =
             rw (named .is, passes (is-short d named e notShort), passes (is-overlong d named v notOverlong), refuses (has-leading d named g q))
             (refusal t e6 f)
 
         pub own-row : l ≡ false → {r : Reply} {t′ : Bytes} → OfType n (λ k. Gives (outcome t (doKind (room t) (store t) d code mask k)) r t′)
             → row r t′
-        unfolding namedRow
+        unfolding formatRow namedRow
         own-row q f =
             rw (named .is, passes (is-short d named e notShort), passes (is-overlong d named v notOverlong), passes (has-leading d named g q))
             (f (named .kind) (named .names))

@@ -62,9 +62,9 @@ module _ {n : ℕ} {d mask : Bytes} (a : Acceptable n d mask) where
   unfolding minimum
   write-long q = named-long write q
 
--- what is shown of a type is shown of its number
-pub of-type : (t d code mask : Bytes) (kind : Kind) {n : ℕ} → n ≡ number kind → {r : Reply} {t′ : Bytes}
+-- what is shown of a kind is shown of its number
+pub shown-of-kind : (t d code mask : Bytes) (kind : Kind) {n : ℕ} → n ≡ number kind → {r : Reply} {t′ : Bytes}
     → Gives (outcome t (doKind (room t) (store t) d code mask kind)) r t′
     → OfType n (λ k. Gives (outcome t (doKind (room t) (store t) d code mask k)) r t′)
-of-type t d code mask kind e {r} {t′} g k q =
+shown-of-kind t d code mask kind e {r} {t′} g k q =
     subst (λ (x : Kind). Gives (outcome t (doKind (room t) (store t) d code mask x)) r t′) (sym (number-inj k kind (q ∙ e))) g

@@ -8,9 +8,8 @@ use mathlib.Core.List.{List, [], _∷_}
 use mathlib.Core.Bool.{Bool, true, false, true≢false}
 use lib.Dec.{ltb}
 use borrow.Author.Tests.{eq-eqb, ltb-true, ltb-false}
-use Rattle.rules.specs.Words.{Every}
+use Rattle.rules.specs.Words.{Every, OneOf}
 use Rattle.rules.specs.Table.{Record, Store, get, Ascending}
-use Rattle.rules.specs.Demands.{OneOf}
 use Rattle.laws.proofs.Bools.{and-both, tests-true}
 use Rattle.laws.proofs.Lists.{every-map}
 use Rattle.laws.proofs.Stores.{get-none, get-here, get-past, get-below}

@@ -9,13 +9,12 @@ use mathlib.Core.List.{List, [], _∷_}
 use mathlib.Core.Bool.{true, true≢false}
 use lib.Dec.{lit<}
 use lib.ListN.{length, drop, length-drop}
-use Rattle.rules.specs.Words.{Every}
+use Rattle.rules.specs.Words.{Every, OneOf}
 use Rattle.rules.specs.Table.{Record, Store, get, Ascending, Sized}
 use Rattle.rules.specs.KernelStorage.{slot, addressSlot, indexSlot, countSlot, wordSlot, lengthSlot, placeSlot, kernelAddressSlot, currentSlot, entrySlot}
 use Rattle.rules.specs.Capabilities.{number}
 use Rattle.rules.specs.Procedures.{listLength, keyAt, kernelAddress, current, entryKey, InList, Listed}
 use Rattle.rules.specs.Sound.{Belongs, address, index, count, capabilityWord, listLengthHere, place, kernelAddressHere, currentHere, entryHere, Sound}
-use Rattle.rules.specs.Demands.{OneOf}
 use Rattle.laws.proofs.Numbers.{same-or-not}
 use Rattle.laws.proofs.Bools.{tests-true, true-tests}
 use Rattle.laws.proofs.Lists.{every-map, every-drop}

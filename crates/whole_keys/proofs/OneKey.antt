@@ -12,9 +12,8 @@ use Rattle.rules.specs.Words.{keyBytes, Bytes}
 use Rattle.rules.specs.Table.{store}
 use Rattle.rules.specs.Capabilities.{delete, Capability, wordOf, prefix, base, firstBits, coversKey, withinPrefix, covers, within, greatestPrefix, prefixUpTo}
 use Rattle.rules.specs.Messages.{dataOf, named, keyWord}
-use Rattle.rules.specs.Answers.{fields, Refusal, x33, _⇒_, Result, refuse, outcome}
-use Rattle.rules.specs.Calls.{chosen, notCovering, deleteRow, kindRow, namedRow, systemRow, systemCall}
-use Rattle.rules.specs.Demands.{succeeds}
+use Rattle.rules.specs.Answers.{fields, succeeds, Refusal, x33, _⇒_, Result, refuse, outcome}
+use Rattle.rules.specs.Calls.{chosen, notCovering, deleteRow, ownRow, formatRow, namedRow, systemRow, systemCall}
 use Rattle.rules.specs.Examples.{prefixOfKey}
 use Rattle.laws.proofs.Bools.{and-left, and-right}
 use Rattle.laws.proofs.Numbers.{digits-div, digits-mod}
@@ -79,14 +78,14 @@ stays-one-key = (same-right, (same-right, (same-right, tt)))
 -- A Delete: a check that fails refuses, and one that has passed shows what is covered.
 module _ (t d : Bytes) where
   abbrev OfItsBase : Result → Type 0
-  OfItsBase r = succeeds (outcome t r) ≡ true → keyWord d ≡ base (chosen (store t) d delete)
+  OfItsBase r = succeeds (outcome t r .answer) ≡ true → keyWord d ≡ base (chosen (store t) d delete)
 
   refused : (code : Refusal) → OfItsBase (refuse code)
   unfolding succeeds outcome fields
   refused code q = absurd (true≢false (sym q))
 
 pub closes-one-key : ClosesOneKey
-unfolding systemCall systemRow namedRow kindRow deleteRow notCovering covers
+unfolding systemCall systemRow formatRow namedRow ownRow deleteRow notCovering covers
 closes-one-key t m code mask is whole =
     rw (ap named is ∙ named-number delete) (
     judge-cases (OfItsBase t d) _ _ (λ c i e. refused t d (c .code)) (λ ps success.

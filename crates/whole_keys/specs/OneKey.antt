@@ -9,7 +9,7 @@ use Rattle.rules.specs.Table.{store}
 use Rattle.rules.specs.Capabilities.{delete, number, Capability, prefix, base, covers, within, prefixInRange}
 use Rattle.rules.specs.Messages.{typeOf, dataOf, keyWord}
 use Rattle.rules.specs.Calls.{chosen, systemCall}
-use Rattle.rules.specs.Demands.{succeeds}
+use Rattle.rules.specs.Answers.{succeeds}
 use Rattle.rules.specs.Examples.{EachPrefixKind, prefixOfKey}
 
 -- all the bits of a key: 192
@@ -36,7 +36,7 @@ EveryKeyHasOne =
 -- A Delete that names such a right and succeeds is of its base key, whatever the table and the message hold besides.
 abbrev pub ClosesOneKey : Type 0
 ClosesOneKey = (t m code mask : Bytes) → typeOf m ≡ number delete → ToOneKey (chosen (store t) (dataOf m) delete)
-    → succeeds (systemCall t m code mask) ≡ true → keyWord (dataOf m) ≡ base (chosen (store t) (dataOf m) delete)
+    → succeeds (systemCall t m code mask .answer) ≡ true → keyWord (dataOf m) ≡ base (chosen (store t) (dataOf m) delete)
 
 -- What lies within it, and is in range, is a right to the same key: handed on, it does not grow.
 abbrev pub StaysOneKey : Type 0

@@ -1,6 +1,6 @@
 -- The struct is the one of the kernel's reply and of the payload's length, and the table is as the kernel leaves it.
 use Rattle.rules.specs.Calls.{systemCall}
-use Rattle.demands.proofs.Demand2.{own-payload}
+use Rattle.laws.proofs.OwnPayload.{own-payload}
 use Rattle.beaker.proofs.Structs.{exports-part}
 use borrow.Author.Needs.{needs}
 use Rattle.beaker.proofs.beaker_system_call.Statement.{statement}

@@ -14,7 +14,7 @@ returns : tie.Need-returns
 unfolding codeNumber
 returns c =
     let start = c .before .before .before .before in
-    turn-wrong (start .args .t .now) (start .args .key .now) (search needs) (c .refused .ensures)
+    turn-wrong (start .args .t .now) (start .args .running .now) (search needs) (c .refused .ensures)
 
 sound-requires : tie.Need-sound-requires
 sound-requires c κs = search needs
@@ -44,7 +44,7 @@ returns-2 c =
     let told = c .before in
     let sound = told .before .before in
     let start = sound .before .before .before .before .before in
-    turn-unsound (start .args .t .now) (start .args .key .now) (search needs)
+    turn-unsound (start .args .t .now) (start .args .running .now) (search needs)
     (not-sound (start .args .t .now) (sound .sound .ensures) (told .enum-told .given .1)) (c .refused2 .ensures)
 
 same-length-2 : tie.Need-same-length-2
@@ -56,7 +56,7 @@ returns-3 c =
     let used = turned .before .before .before in
     let sound = used .before .before in
     let start = sound .before .before .before .before .before in
-    turn-sound (start .args .t .now) (start .args .key .now) (search needs)
+    turn-sound (start .args .t .now) (start .args .running .now) (search needs)
     (is-sound (start .args .t .now) (sound .sound .ensures) (used .used .given .1)) (turned .turn-to .ensures)
 
 pub turn-spec : {M : Type 1} → statement M

@@ -1,6 +1,6 @@
 -- Each type asks its own comparison: the words that come first are the capability.
-use Rattle.rights.proofs.ByType.{not-write, prefixed, has-first, has-second, prefix-fits, key-number}
-use Rattle.rights.proofs.ByType.{entry-covers, range-covers, prefix-covers}
+use Rattle.rights.proofs.ByKind.{not-write, prefixed, has-first, has-second, prefix-fits, key-number}
+use Rattle.rights.proofs.ByKind.{entry-covers, range-covers, prefix-covers}
 use borrow.Author.Needs.{needs}
 use Rattle.rights.proofs.covers.Statement.{statement}
 use Rattle.rights.proofs.covers.Tie as tie

@@ -2,7 +2,7 @@
 use mathlib.Core.Path.{ap}
 use lib.Dec.{leb}
 use Rattle.rules.specs.Capabilities.{number, greatestPrefix}
-use Rattle.rights.proofs.ByType.{no-prefix, first-prefix}
+use Rattle.rights.proofs.ByKind.{no-prefix, first-prefix}
 use borrow.Author.Needs.{needs}
 use Rattle.rights.proofs.prefix_in_range.Statement.{statement}
 use Rattle.rights.proofs.prefix_in_range.Tie as tie

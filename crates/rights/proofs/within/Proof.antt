@@ -1,5 +1,5 @@
 -- Each type asks its own comparison: the words that come first are the two capabilities.
-use Rattle.rights.proofs.ByType.{prefixed, has-first, has-second, prefix-fits, entry-within, range-within, prefix-within}
+use Rattle.rights.proofs.ByKind.{prefixed, has-first, has-second, prefix-fits, entry-within, range-within, prefix-within}
 use borrow.Author.Needs.{needs}
 use Rattle.rights.proofs.within.Statement.{statement}
 use Rattle.rights.proofs.within.Tie as tie

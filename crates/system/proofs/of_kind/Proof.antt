@@ -1,7 +1,7 @@
 -- Each type's row is carried out by its own function; where no other is left, the type is Write.
 use Rattle.rules.specs.Capabilities.{call, register, delete, setEntry, write, number}
-use Rattle.rules.specs.Calls.{kindRow}
-use Rattle.system.proofs.OwnRow.{call-names, delete-names, set-entry-names, register-names, is-write, write-long, of-type}
+use Rattle.rules.specs.Calls.{ownRow}
+use Rattle.system.proofs.OwnRow.{call-names, delete-names, set-entry-names, register-names, is-write, write-long, shown-of-kind}
 use borrow.Author.Needs.{needs}
 use Rattle.system.proofs.of_kind.Statement.{statement}
 use Rattle.system.proofs.of_kind.Tie as tie
@@ -17,11 +17,11 @@ same-length : tie.Need-same-length
 same-length c = search needs
 
 returns : tie.Need-returns
-unfolding kindRow number
+unfolding ownRow number
 returns c =
     let if1 = c .before .before in
     let start = if1 .before .before .before .before .before .before in
-    of-type (start .args .t .now) (start .args .d .now) (start .args .code .now) (start .args .mask .now) call (search needs) (c .call .ensures)
+    shown-of-kind (start .args .t .now) (start .args .d .now) (start .args .code .now) (start .args .mask .now) call (search needs) (c .call .ensures)
 
 register-requires : tie.Need-register-requires
 unfolding number
@@ -33,11 +33,11 @@ same-length-2 : tie.Need-same-length-2
 same-length-2 c = search needs
 
 returns-2 : tie.Need-returns-2
-unfolding kindRow number
+unfolding ownRow number
 returns-2 c =
     let done = c .before .before in
     let start = done .before .before .before .before .before .before .before .before .before .before in
-    of-type (start .args .t .now) (start .args .d .now) (start .args .code .now) (start .args .mask .now) register (search needs)
+    shown-of-kind (start .args .t .now) (start .args .d .now) (start .args .code .now) (start .args .mask .now) register (search needs)
     (done .register .ensures)
 
 delete-requires : tie.Need-delete-requires
@@ -50,11 +50,11 @@ same-length-3 : tie.Need-same-length-3
 same-length-3 c = search needs
 
 returns-3 : tie.Need-returns-3
-unfolding kindRow number
+unfolding ownRow number
 returns-3 c =
     let done = c .before .before in
     let start = done .before .before .before .before .before .before .before .before .before .before .before .before in
-    of-type (start .args .t .now) (start .args .d .now) (start .args .code .now) (start .args .mask .now) delete (search needs)
+    shown-of-kind (start .args .t .now) (start .args .d .now) (start .args .code .now) (start .args .mask .now) delete (search needs)
     (done .delete .ensures)
 
 set-entry-requires : tie.Need-set-entry-requires
@@ -67,11 +67,11 @@ same-length-4 : tie.Need-same-length-4
 same-length-4 c = search needs
 
 returns-4 : tie.Need-returns-4
-unfolding kindRow number
+unfolding ownRow number
 returns-4 c =
     let done = c .before .before in
     let start = done .before .before .before .before .before .before .before .before .before .before .before .before .before .before in
-    of-type (start .args .t .now) (start .args .d .now) (start .args .code .now) (start .args .mask .now) setEntry (search needs)
+    shown-of-kind (start .args .t .now) (start .args .d .now) (start .args .code .now) (start .args .mask .now) setEntry (search needs)
     (done .set-entry .ensures)
 
 write-requires : tie.Need-write-requires
@@ -85,11 +85,11 @@ same-length-5 : tie.Need-same-length-5
 same-length-5 c = search needs
 
 returns-5 : tie.Need-returns-5
-unfolding kindRow number
+unfolding ownRow number
 returns-5 c =
     let done = c .before .before in
     let start = done .before .before .before .before .before .before .before .before .before .before .before .before .before .before in
-    of-type (start .args .t .now) (start .args .d .now) (start .args .code .now) (start .args .mask .now) write
+    shown-of-kind (start .args .t .now) (start .args .d .now) (start .args .code .now) (start .args .mask .now) write
     (is-write (start .pre .1) (search needs) (search needs) (search needs) (search needs)) (done .write .ensures)
 
 pub of-kind-spec : {M : Type 1} → statement M

@@ -1,0 +1,4 @@
+pub mod Lent
+pub mod FailDemand1
+pub mod FailDemand2
+pub mod FailDemand3

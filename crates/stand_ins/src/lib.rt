@@ -1,0 +1,1 @@
+// Wrong kernels, each proved to fail a demand; there is no code here.

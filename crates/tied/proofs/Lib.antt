@@ -1,0 +1,3 @@
+pub mod ReadBack
+pub mod Inside
+pub mod Tied
