@@ -1,3 +1,4 @@
+#![tactic(auto)]
 // What the current procedure may do, and whether a key is listed: what the rows of the system calls ask of a sound table.
 ghost use Rattle.std.specs.Prelude.{◌≡◌, not, ◌≤◌, length};
 ghost use Rattle.rules.specs.Words.{word_bytes, key_bytes, num};

@@ -1,3 +1,4 @@
+#![tactic(auto)]
 // One line's answer: its message is a system call on the table, and the answer is printed.
 ghost use Rattle.std.specs.Prelude.{◌+◌, ◌≤◌, ◌≡◌, length};
 ghost use Rattle.std.proofs.Math.Option.{some};

@@ -1,3 +1,4 @@
+#![tactic(auto)]
 // The stores of Register: the key is appended to the list, and the new procedure's records are put where room is made for them.
 ghost use Rattle.std.specs.Prelude.{◌≡◌, length};
 ghost use Rattle.rules.specs.Words.{key_bytes, num};

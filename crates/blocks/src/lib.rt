@@ -1,3 +1,4 @@
+#![tactic(auto)]
 // The walk over the records of the procedures: each one's address and index, then for each type its count and its words.
 ghost use Rattle.std.specs.Prelude.{◌≡◌, ◌+◌, ◌*◌, ◌-◌, ◌%◌, ◌^◌, ◌≤◌, min, eqb};
 ghost use Rattle.rules.specs.Words.{word_bytes, word_at};

@@ -1,3 +1,4 @@
+#![tactic(auto)]
 // The system calls Call, Set Entry and Write on a sound table: the checks of each row in document 01's order, then its effect.
 ghost use Rattle.std.specs.Prelude.{◌≡◌, ◌*◌, ◌^◌, ◌≤◌, ◌<◌, length};
 ghost use Rattle.rules.specs.Words.{word_bytes, address_bytes, num, bytes_of};

@@ -1,3 +1,4 @@
+#![tactic(auto)]
 // The requested capabilities of one type, stored for a procedure.
 ghost use Rattle.rules.specs.Words.{num};
 ghost use Rattle.capability_records.specs.CapabilityRecords.{WordsNeeds, WordsStored, KindNeeds, KindStored};

@@ -1,3 +1,4 @@
+#![tactic(auto)]
 // Records taken out of a table.
 ghost use Rattle.std.specs.Prelude.{◌≡◌, ◌*◌, ◌≤◌, length};
 ghost use Rattle.rules.specs.Table.{record_size};

@@ -1,3 +1,4 @@
+#![tactic(auto)]
 // How many records the capabilities that a Register requests need: each word that is not zero, and each type that is requested.
 ghost use Rattle.std.specs.Prelude.{◌≡◌, ◌+◌, ◌*◌, ◌≤◌, length, drop};
 ghost use Rattle.rules.specs.Words.{word_bytes, words};

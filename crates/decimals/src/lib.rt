@@ -1,3 +1,4 @@
+#![tactic(auto)]
 // A number in decimal, written into a lent buffer as crate `writing` writes text.
 ghost use Rattle.std.specs.Prelude.{◌+◌, ◌%◌, ◌≤◌, ◌≡◌, length};
 ghost use Rattle.rules.specs.Program.{decimal};

@@ -1,3 +1,4 @@
+#![tactic(auto)]
 // The system call Delete on a sound table: the checks of its row in document 01's order, then its effect.
 ghost use Rattle.std.specs.Prelude.{◌≡◌, eqb};
 ghost use Rattle.rules.specs.Table.{store};

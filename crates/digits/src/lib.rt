@@ -1,3 +1,4 @@
+#![tactic(auto)]
 // Lines of lower-case hex: a line's digits into the bytes of its message.
 ghost use Rattle.std.specs.Prelude.{◌≡◌, ◌*◌, ◌≤◌, ◌++◌, length, drop};
 ghost use Rattle.rules.specs.Program.{greatest_line};
@@ -10,7 +11,7 @@ pub const GREATEST_LINE: usize = 4096;
 pub const GREATEST_MESSAGE: usize = GREATEST_LINE / 2;
 
 // What a line is: a message of so many bytes, or another line.
-#[derive(Drop)]
+#[derive(Clone, Copy)]
 pub enum Line {
     Message(usize),
     Other,

@@ -1,3 +1,4 @@
+#![tactic(auto)]
 // Whether byte strings are the same, and whether one is zero. Those of eight bytes or more are read by limbs.
 ghost use Rattle.std.specs.Prelude.{◌≡◌, eqb, length};
 ghost use Rattle.rules.specs.Words.{num};

@@ -1,3 +1,4 @@
+#![tactic(auto)]
 // The program's input in pieces: each whole line of a piece is answered, and what is left of it begins the next piece.
 ghost use Rattle.std.specs.Prelude.{◌+◌, ◌≤◌, ◌≡◌, length};
 ghost use Rattle.answering.specs.Answering.{answer_of, Answers, answer_room};
@@ -5,7 +6,7 @@ ghost use Rattle.feeding.specs.Feeding.{message_left, kept, Feeds, finished};
 
 // What came of a piece: how many of its bytes are taken, whether they end within a line that is too long already, how many bytes of
 // answers there are, and whether there was no room for more of them.
-#[derive(Drop)]
+#[derive(Clone, Copy)]
 pub struct Fed {
     pub taken: usize,
     pub long: bool,

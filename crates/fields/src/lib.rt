@@ -1,3 +1,4 @@
+#![tactic(auto)]
 // The words of a message's data, `d`, read in the data as it was lent.
 ghost use Rattle.std.specs.Prelude.{◌≡◌, false, ◌+◌, ◌*◌, ◌-◌, ◌^◌, ◌≤◌, leb, length};
 ghost use Rattle.rules.specs.Words.{key_bytes, word_bytes, word_at};

@@ -1,3 +1,4 @@
+#![tactic(auto)]
 // The record table read: where a key stands.
 ghost use Rattle.std.specs.Prelude.{◌≡◌, true, ◌≤◌, eqb, ltb, length};
 ghost use Rattle.rules.specs.Words.{word_bytes, num};
@@ -5,7 +6,7 @@ ghost use Rattle.rules.specs.Table.{store, record_form};
 ghost use Rattle.finding.specs.Finding.{keys_below, place_of, has_key};
 
 // Where a key's record stands, or where it would.
-#[derive(Drop)]
+#[derive(Clone, Copy)]
 pub enum Place {
     Has(usize),
     Gap(usize),

@@ -1,3 +1,4 @@
+#![tactic(auto)]
 // The first table: one procedure, current and entry, with the capabilities that set-up gives it.
 ghost use Rattle.std.specs.Prelude.{◌≡◌, length};
 ghost use Rattle.rules.specs.Words.{key_bytes, address_bytes, num};

@@ -1,3 +1,4 @@
+#![tactic(auto)]
 // Records written in a table: one is put in, one has another value, room is made for several.
 ghost use Rattle.std.specs.Prelude.{◌≡◌, ◌+◌, ◌*◌, ◌≤◌, length};
 ghost use Rattle.rules.specs.Words.{word_bytes};

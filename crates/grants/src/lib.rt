@@ -1,3 +1,4 @@
+#![tactic(auto)]
 // What Register asks of the requested capabilities: each lies within a single one that the current procedure holds.
 ghost use Rattle.std.specs.Prelude.{◌≤◌, length};
 ghost use Rattle.rules.specs.Table.{store};
@@ -7,7 +8,7 @@ ghost use Rattle.results.specs.Results.{SoundWith};
 ghost use Rattle.grants.specs.Grants.{Granted};
 
 // Whether each requested capability is contained, and then how many tests that took.
-#[derive(Drop)]
+#[derive(Clone, Copy)]
 pub struct Grant {
     pub contained: bool,
     pub tests: u64,

@@ -1,3 +1,4 @@
+#![tactic(auto)]
 // The two records that begin a procedure: its address, and its index, which names the place that holds the procedure's key.
 ghost use Rattle.std.specs.Prelude.{◌≡◌, ◌&&◌, suc, ◌+◌, ◌%◌, ◌^◌, ◌<◌, eqb, length};
 ghost use Rattle.rules.specs.Words.{word_bytes, key_bytes, num};

@@ -1,3 +1,4 @@
+#![tactic(auto)]
 // The search among the capabilities that a procedure holds for one that contains another. Each is copied
 // from the table when it is first tested, so that a later search for a request of its type finds the copy.
 ghost use Rattle.std.specs.Prelude.{◌≡◌, ◌≤◌, ◌<◌, replicate};
@@ -15,7 +16,7 @@ const COPIES_BYTES: usize = rules::GREATEST_COUNT * holding::CAPABILITY_BYTES;
 
 // How far the capabilities of a type were read: how many are held, and of how many, from the first on, there are copies. `next` is
 // a guess where the next one's words stand in the table.
-#[derive(Drop)]
+#[derive(Clone, Copy)]
 pub struct Reading {
     pub kind: Kind,
     pub number: usize,
@@ -25,7 +26,7 @@ pub struct Reading {
 
 // What a search finds: whether a held capability contains the requested one, and how many were tested. The last one tested
 // is the first that contains it, so `tests` is then its place among those held, from 1. `reading` is for the next search.
-#[derive(Drop)]
+#[derive(Clone, Copy)]
 pub struct Search {
     pub contained: bool,
     pub tests: usize,

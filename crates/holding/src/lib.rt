@@ -1,3 +1,4 @@
+#![tactic(auto)]
 // The capabilities that a procedure holds, read from the table.
 ghost use Rattle.std.specs.Prelude.{◌≡◌, ◌*◌, min, length};
 ghost use Rattle.rules.specs.Words.{word_bytes, num};
@@ -13,7 +14,7 @@ use records::Place;
 pub const CAPABILITY_BYTES: usize = rules::WORD_BYTES * rules::GREATEST_WORDS;
 
 // How many capabilities of a type a procedure holds, and the place of that count: how many keys are below its key.
-#[derive(Drop)]
+#[derive(Clone, Copy)]
 pub struct Count {
     pub number: usize,
     pub place: usize,

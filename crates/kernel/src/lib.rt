@@ -1,3 +1,4 @@
+#![tactic(auto)]
 // The kernel: set-up, Turn, Look and the system calls on a lent table. No function asks anything of what it is lent: each
 // promises the whole answer and every byte of the table after, for every input.
 ghost use Rattle.kernel.specs.Promises.{SetUpPromise, TurnPromise, LookPromise, SystemCallPromise};

@@ -1,3 +1,4 @@
+#![tactic(auto)]
 // Keys and addresses in words.
 ghost use Rattle.std.specs.Prelude.{◌≡◌, ◌&&◌, ◌-◌, ◌^◌, ◌≤◌, eqb, leb, ltb, length, take, drop};
 ghost use Rattle.rules.specs.Words.{word_bytes, key_bytes, num};

@@ -1,3 +1,4 @@
+#![tactic(auto)]
 // A key of the table judged: whether it is one of kernel storage, and what its parts are.
 ghost use Rattle.std.specs.Prelude.{◌≡◌, ◌≤◌, ◌-◌, length, take, drop};
 ghost use Rattle.rules.specs.Words.{word_bytes, num};

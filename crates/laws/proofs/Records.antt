@@ -14,6 +14,7 @@ abbrev pub Stored : Store → List Record → Type 0
 Stored s rs = (r : Record) → In r rs → get s r.key ≡ r.value
 
 pub stored-left : (s : Store) (a b : List Record) → Stored s (a ++ b) → Stored s a
+stored-left s [] b h r i = elim i [ ]
 stored-left s (x ∷ a) b h r here = h r here
 stored-left s (x ∷ a) b h r (there i) = stored-left s a b (λ y j. h y (there j)) r i
 
@@ -28,6 +29,7 @@ Apart (r ∷ rs) = Misses r.key rs × Apart rs
 
 pub puts-stored : (s : Store) (rs : List Record) → Ascending 0 s → Apart rs → Stored (puts s rs) rs
 unfolding puts
+puts-stored s [] a h r i = elim i [ ]
 puts-stored s (x ∷ rs) a h r here = get-puts-last s [] x rs a h.0
 puts-stored s (x ∷ rs) a h r (there i) =
     puts-stored (put s x.key x.value) rs (put-ascending 0 s x.key x.value (omega arith) a) h.1 r i

@@ -119,6 +119,7 @@ module _ (t : Store) (p : ℕ) where
   pub kinds-read : (rs : List Request) → Storable rs → (ks : List Kind) → Stored t (kind_records p rs ks)
       → (kind : Kind) → OneOf kind ks → Requested t p rs kind
   unfolding kind_records count_of held
+  kinds-read rs ok [] stored kind i = elim i [ ]
   kinds-read rs ok (x ∷ ks) stored kind (inl q) =
       let counted : count_of t p x ≡ length (requested_of x rs) = stored _ here in
       let own = stored-left t _ _ (λ r j. stored r (there j)) in

@@ -1,1 +1,2 @@
+#![tactic(auto)]
 // Laws about the rules that many proofs use; there is no code here.

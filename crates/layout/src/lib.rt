@@ -1,3 +1,4 @@
+#![tactic(auto)]
 // The bytes of a key of kernel storage, and those of a number.
 ghost use Rattle.std.specs.Prelude.{◌≡◌, length};
 ghost use Rattle.rules.specs.Words.{key_bytes, word_bytes, num, bytes_of};

@@ -1,3 +1,4 @@
+#![tactic(auto)]
 // A word by its limbs, most significant first: eight of four bytes, or four of eight.
 ghost use Rattle.std.specs.Prelude.{◌≡◌, ◌+◌, ◌<◌, ◌≤◌, length};
 ghost use Rattle.rules.specs.Words.{num};

@@ -1,3 +1,4 @@
+#![tactic(auto)]
 // What a slot holds, and whether a key is listed.
 ghost use Rattle.std.specs.Prelude.{◌≡◌, length};
 ghost use Rattle.rules.specs.Words.{word_bytes, key_bytes, num};

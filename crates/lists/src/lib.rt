@@ -1,3 +1,4 @@
+#![tactic(auto)]
 // The records from the list length on: the places in order, the kernel address, the current and the entry key.
 ghost use Rattle.std.specs.Prelude.{◌≡◌, [], ◌∷◌, ◌+◌, ◌*◌, ◌-◌, ◌<◌, eqb, length, drop};
 ghost use Rattle.rules.specs.Words.{word_bytes, num, word_at};

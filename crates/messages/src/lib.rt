@@ -1,3 +1,4 @@
+#![tactic(auto)]
 // A message's type, data and payload, read in the message as it was lent. Its data, `d`, is the message from byte 1 on.
 ghost use Rattle.std.specs.Prelude.{◌≡◌, ltb, length};
 ghost use Rattle.rules.specs.Source.{minimum_of};
@@ -11,7 +12,7 @@ use rules::Kind;
 const NULL: u8 = 0;
 
 // What a message's type names.
-#[derive(Drop)]
+#[derive(Clone, Copy)]
 pub enum Named {
     Null,
     Unknown,

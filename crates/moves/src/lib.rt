@@ -1,3 +1,4 @@
+#![tactic(auto)]
 // Bytes moved in slices: a word is read, bytes are copied, cleared and shifted.
 ghost use Rattle.std.specs.Prelude.{◌≡◌, ◌+◌, ◌≤◌, length, replicate};
 ghost use Rattle.rules.specs.Words.{word_bytes};

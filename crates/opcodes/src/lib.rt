@@ -1,3 +1,4 @@
+#![tactic(auto)]
 // Code validation at registration: the opcode mask alone decides which code passes.
 ghost use Rattle.std.specs.Prelude.{◌≡◌, ◌≤◌, length, drop};
 ghost use Rattle.rules.specs.Words.{word_bytes};

@@ -1,3 +1,4 @@
+#![tactic(auto)]
 // The payload of an answer: a part of the caller's own message.
 ghost use Rattle.std.specs.Prelude.{◌≡◌, []};
 ghost use Rattle.payloads.specs.Payloads.{PayloadPromise};

@@ -1,3 +1,4 @@
+#![tactic(auto)]
 // The program of document 01: it sets up a table, reads messages as lines of hex, and prints a line for each answer.
 // What is printed for a piece of the input is promised and proved in `feeding`. Here the pieces are read and the answers written.
 ghost use Rattle.std.specs.Prelude.{◌≤◌, length};

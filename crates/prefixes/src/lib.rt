@@ -1,3 +1,4 @@
+#![tactic(auto)]
 // Prefix capabilities: the keys that one covers, and the ones that lie within it.
 ghost use Rattle.std.specs.Prelude.{◌≡◌, [], ◌∷◌, ◌-◌, ◌*◌, ◌/◌, ◌^◌, ◌≤◌, eqb, length};
 ghost use Rattle.rules.specs.Words.{key_bytes, word_bytes, num};

@@ -1,3 +1,4 @@
+#![tactic(auto)]
 // The line that is printed for an answer.
 ghost use Rattle.std.specs.Prelude.{◌+◌, ◌*◌, ◌≤◌, ◌≡◌, [], ◌∷◌, ◌++◌, length};
 ghost use Rattle.rules.specs.Answers.{code_bytes};

@@ -1,3 +1,4 @@
+#![tactic(auto)]
 // A procedure's own records: its address, its index, how many capabilities it has of each type, and these.
 ghost use Rattle.std.specs.Prelude.{◌≡◌, length};
 ghost use Rattle.rules.specs.Words.{key_bytes, word_bytes, num};

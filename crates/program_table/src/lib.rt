@@ -1,3 +1,4 @@
+#![tactic(auto)]
 // The program's first table.
 ghost use Rattle.std.specs.Prelude.{◌≤◌, ◌≡◌, length};
 ghost use Rattle.rules.specs.Table.{greatest_table};

@@ -1,3 +1,4 @@
+#![tactic(auto)]
 // Write capabilities: the addresses that one covers, and the ones that lie within it.
 ghost use Rattle.std.specs.Prelude.{◌≡◌, [], ◌∷◌, length};
 ghost use Rattle.rules.specs.Words.{word_bytes, num};

@@ -1,3 +1,4 @@
+#![tactic(auto)]
 // The record table read: what a key holds, and how many keys are at most a given one.
 ghost use Rattle.std.specs.Prelude.{◌≡◌, true, ◌+◌, length};
 ghost use Rattle.rules.specs.Words.{word_bytes, num, word};

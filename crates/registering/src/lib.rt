@@ -1,3 +1,4 @@
+#![tactic(auto)]
 // The system call Register on a sound table: the checks of its row in document 01's order, then its effect. The row is in three
 // parts, each of which ends with the next: what the message names, the capabilities that it requests, and the room that they need.
 ghost use Rattle.std.specs.Prelude.{◌≡◌, length};

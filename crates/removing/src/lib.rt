@@ -1,3 +1,4 @@
+#![tactic(auto)]
 // Records taken out of a table: a procedure's are removed.
 ghost use Rattle.std.specs.Prelude.{◌≡◌, true, length};
 ghost use Rattle.rules.specs.Words.{key_bytes, num};

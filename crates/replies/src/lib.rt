@@ -1,3 +1,4 @@
+#![tactic(auto)]
 // The struct that the library returns: a host gets one struct of plain numbers and bytes back, and the payload of a Call stays in
 // the host's own message, where the struct says.
 ghost use Rattle.std.specs.Prelude.{◌≡◌, length};

@@ -1,3 +1,4 @@
+#![tactic(auto)]
 // Whether Register's series of requested capabilities is well formed. `d` is the data of a Register message.
 ghost use Rattle.std.specs.Prelude.{◌≡◌, true, not, ◌+◌, ◌*◌, ◌-◌, ◌%◌, ◌≤◌, ◌<◌, length};
 ghost use Rattle.rules.specs.Words.{word_bytes, word_at};

@@ -1,3 +1,4 @@
+#![tactic(auto)]
 // Words in which a number or bytes stand right: the unused leading bytes are zero.
 ghost use Rattle.std.specs.Prelude.{◌≡◌, ◌≤◌, length};
 ghost use Rattle.rules.specs.Words.{word_bytes, num};

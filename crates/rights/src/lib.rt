@@ -1,3 +1,4 @@
+#![tactic(auto)]
 // What a capability permits, by its type: the keys or addresses that it covers, and the capabilities that lie within it.
 ghost use Rattle.std.specs.Prelude.{◌≡◌};
 ghost use Rattle.rules.specs.Words.{num};

@@ -1,3 +1,4 @@
+#![tactic(auto)]
 // How many records a table needs once a key is set.
 ghost use Rattle.std.specs.Prelude.{◌≡◌, true, length};
 ghost use Rattle.rules.specs.Words.{word_bytes, num};

@@ -1,3 +1,4 @@
+#![tactic(auto)]
 // A record of a procedure behind its index: the number of its capabilities of a type, or a word of one of them.
 ghost use Rattle.std.specs.Prelude.{◌≡◌, ◌%◌, ◌^◌, min, eqb, length};
 ghost use Rattle.rules.specs.Words.{word_bytes, num};

@@ -1,3 +1,4 @@
+#![tactic(auto)]
 // The rules. Document 01, with what 02 has changed, stands as definitions in specs/. Here stand its numbers, named once, and the types that the
 // other crates share; `named_numbers` shows that the numbers here and in specs/ are the same ones.
 ghost use Rattle.std.specs.Prelude.{◌≡◌};
@@ -45,7 +46,7 @@ pub const GREATEST_CODE: usize = 24576;
 pub const GREATEST_LIST: usize = 16777215;
 
 // The type of a capability or a message, by its number. (The language keeps the word `type` for itself.)
-#[derive(Drop)]
+#[derive(Clone, Copy)]
 pub struct Kind(pub u8);
 
 // The numbers of types are below this.
@@ -132,7 +133,7 @@ impl Kind {
 
 // A refusal's code: its one or two bytes, read as one number. The comments are the rows of document 01's table of codes;
 // that of 66 eb is of document 02.
-#[derive(Drop)]
+#[derive(Clone, Copy)]
 pub struct Refusal(pub u16);
 
 impl Refusal {
@@ -175,7 +176,7 @@ impl Refusal {
 }
 
 // What a call answers.
-#[derive(Drop)]
+#[derive(Clone, Copy)]
 pub enum Answer {
     // a refusal with its code
     Refused(Refusal),

@@ -1,3 +1,4 @@
+#![tactic(auto)]
 // Register's series of requested capabilities, read in the data as it was lent. `d` is the data of a Register message.
 ghost use Rattle.std.specs.Prelude.{◌≡◌, ◌<◌, length};
 ghost use Rattle.rules.specs.Messages.{series_at, requests};
@@ -9,7 +10,7 @@ pub use requests::well_formed;
 use rules::Kind;
 
 // A request of a well-formed series: its type, and where in the data its words and the next request begin.
-#[derive(Drop)]
+#[derive(Clone, Copy)]
 pub struct Request {
     pub kind: Kind,
     pub words_at: usize,

@@ -1,3 +1,4 @@
+#![tactic(auto)]
 // Bytes shifted to the left in a slice.
 ghost use Rattle.std.specs.Prelude.{◌≡◌, ◌++◌, ◌-◌, ◌≤◌, length, drop};
 

@@ -1,3 +1,4 @@
+#![tactic(auto)]
 // The keys of the slots of kernel storage.
 ghost use Rattle.std.specs.Prelude.{◌≡◌, length};
 ghost use Rattle.rules.specs.Words.{key_bytes, num};

@@ -1,3 +1,4 @@
+#![tactic(auto)]
 // Whether a table is sound: its record form, then one walk over the records, from the list length on and from the first procedure
 // on; last, the slots that hold a listed key.
 ghost use Rattle.std.specs.Prelude.{◌≡◌, true, length};
@@ -9,7 +10,7 @@ ghost use Rattle.listing.specs.Listings.{Occupied, Listing};
 ghost use Rattle.soundness.specs.Soundness.{SoundList, rest_sound, soundness_of};
 
 // How many records are occupied, if the table is sound.
-#[derive(Drop)]
+#[derive(Clone, Copy)]
 pub enum Soundness {
     Sound(usize),
     Unsound,

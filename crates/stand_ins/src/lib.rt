@@ -1,1 +1,2 @@
+#![tactic(auto)]
 // Wrong kernels, each proved to fail a demand; there is no code here.

@@ -1,3 +1,4 @@
+#![tactic(auto)]
 // Set-up where its sizes are right: the checks that are left of its row, then the first table.
 ghost use Rattle.rules.specs.Answers.{outcome};
 ghost use Rattle.results.specs.Results.{Gives};

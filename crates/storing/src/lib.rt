@@ -1,3 +1,4 @@
+#![tactic(auto)]
 // The record table written: a key is set to a value.
 ghost use Rattle.std.specs.Prelude.{◌≡◌, true, ◌≤◌, length};
 ghost use Rattle.rules.specs.Words.{word_bytes, num};

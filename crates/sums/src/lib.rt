@@ -1,3 +1,4 @@
+#![tactic(auto)]
 // Sums of words compared as whole numbers.
 ghost use Rattle.std.specs.Prelude.{◌≡◌, ◌+◌, ◌<◌, ◌≤◌, leb, length};
 ghost use Rattle.rules.specs.Words.{word_bytes, num};

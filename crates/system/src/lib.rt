@@ -1,3 +1,4 @@
+#![tactic(auto)]
 // A message on a sound table, up to the row of its own type.
 ghost use Rattle.std.specs.Prelude.{◌≡◌, ◌≤◌, length};
 ghost use Rattle.rules.specs.Words.{word_bytes};

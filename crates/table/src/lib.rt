@@ -1,3 +1,4 @@
+#![tactic(auto)]
 // Whether lent bytes have the record form, and how many records are then occupied.
 ghost use Rattle.std.specs.Prelude.{◌≡◌, ◌+◌, ◌*◌, ◌≤◌, length};
 ghost use Rattle.rules.specs.Words.{word_bytes};
@@ -5,7 +6,7 @@ ghost use Rattle.rules.specs.Table.{record_size};
 ghost use Rattle.table.specs.Tables.{climbs_at, run_of, form_of};
 
 // How many records are occupied, or that the table lacks the record form.
-#[derive(Drop)]
+#[derive(Clone, Copy)]
 pub enum Form {
     Used(usize),
     Bad,

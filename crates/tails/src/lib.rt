@@ -1,3 +1,4 @@
+#![tactic(auto)]
 // Bytes shifted by whole records, each of which is moved at once.
 ghost use Rattle.std.specs.Prelude.{◌≡◌, ◌+◌, ◌-◌, ◌%◌, ◌≤◌, ◌++◌, length, take, drop};
 ghost use Rattle.rules.specs.Table.{record_size};

@@ -1,3 +1,4 @@
+#![tactic(auto)]
 // The exports tied to the demands: each function is the export of its name and nothing more, and its contract is demands 1 and 2, for
 // every input. An export whose contract says less is refused here, and one whose body does less than its contract in `beaker`. No host
 // calls these.

@@ -1,3 +1,4 @@
+#![tactic(auto)]
 // Turn on a sound table: the check that is left of its row, then its effect.
 ghost use Rattle.std.specs.Prelude.{◌≡◌, length};
 ghost use Rattle.rules.specs.Words.{key_bytes};

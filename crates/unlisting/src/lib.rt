@@ -1,3 +1,4 @@
+#![tactic(auto)]
 // A procedure taken off the list of a sound table: the stores of Delete.
 ghost use Rattle.std.specs.Prelude.{◌≡◌, length};
 ghost use Rattle.rules.specs.Words.{num};

@@ -1,3 +1,4 @@
+#![tactic(auto)]
 // Words in slices: 32 bytes, most significant first. They are compared as whole numbers.
 ghost use Rattle.std.specs.Prelude.{◌≡◌, min, leb, ltb, length};
 ghost use Rattle.rules.specs.Words.{word_bytes, num};

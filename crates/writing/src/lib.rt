@@ -1,3 +1,4 @@
+#![tactic(auto)]
 // Text written into a lent buffer: a character, bytes in hex. Each function is told where the text begins and returns where it ends.
 ghost use Rattle.std.specs.Prelude.{◌+◌, ◌*◌, ◌≤◌, ◌<◌, ◌≡◌, [], ◌∷◌, length};
 ghost use Rattle.rules.specs.Program.{hex_digit, hex};

@@ -1,0 +1,27 @@
+-- `returns`: the decoded message is the line's; returns-2: the line has none.
+use Rattle.answering.proofs.Steps.{message-in, no-message}
+use Rattle.answering.specs.Answering.{answer_of}
+use native.Mathlib.Omega.{arith}
+use mathlib.Core.Path.{refl}
+use lib.ListN.{length-take}
+use borrow.Author.Rules.{rules}
+use Rattle.answering.proofs.answer_line.Goals as goal
+
+pub slice_bounds-answer_message-end : goal.slice_bounds-answer_message-end
+slice_bounds-answer_message-end c =
+    let fits = (message-in c.in-Message.ensures _ refl).1 in
+    search rules
+
+pub answer_message-requires : goal.answer_message-requires
+answer_message-requires c =
+    let fits = (message-in c.in-Message.ensures _ refl).1 in
+    (simp length-take (omega arith), search rules)
+
+pub returns-in-Message : goal.returns-in-Message
+returns-in-Message c =
+    rw (message-in c.in-Message.ensures _ refl).0 c.answer_message.ensures
+
+pub returns-in-Other : goal.returns-in-Other
+unfolding answer_of
+returns-in-Other c =
+    rw (no-message c.in-Other.ensures refl) (record { wrote = c.print_other.ensures; changed = refl })

@@ -1,0 +1,16 @@
+-- Two calls, one after the other: what the second asks is what the first leaves (`new-needs`).
+use Rattle.appending.proofs.First.{place-takes, new-needs, appended}
+use Rattle.appending.proofs.append.Goals as goal
+
+pub put_place-listed-requires : goal.put_place-listed-requires
+put_place-listed-requires c =
+    let need = c.requires in
+    (place-takes need, need.key)
+
+pub insert_procedure-requires : goal.insert_procedure-requires
+insert_procedure-requires c =
+    new-needs c.requires c.put_place-listed.ensures
+
+pub returns : goal.returns
+returns c =
+    appended c.requires c.put_place-listed.ensures c.insert_procedure.ensures

@@ -1,0 +1,21 @@
+-- Two stores, one after the other: the room that the second needs is what the first leaves of it (`Left`).
+use mathlib.Core.Path.{refl}
+use Rattle.capability_records.proofs.Left.{left-all, left-none, left-ready, left-put}
+use Rattle.appending.proofs.put_place.Goals as goal
+
+pub put-stored-requires : goal.put-stored-requires
+put-stored-requires c =
+    left-ready (left-all c.requires.takes) refl c.place_slot-slot.ensures c.right_word.ensures
+
+pub put-requires : goal.put-requires
+put-requires c =
+    left-ready
+    (left-put (left-all c.requires.takes) refl c.place_slot-slot.ensures c.right_word.ensures c.put-stored.ensures)
+    refl c.length_slot.ensures c.number_word.ensures
+
+pub returns : goal.returns
+returns c =
+    left-none (
+    left-put
+    (left-put (left-all c.requires.takes) refl c.place_slot-slot.ensures c.right_word.ensures c.put-stored.ensures)
+    refl c.length_slot.ensures c.number_word.ensures c.put.ensures)

@@ -1,0 +1,10 @@
+-- The first slot is that of the key zero.
+use mathlib.Core.Path.{ap, ◌∙◌}
+use Rattle.rules.specs.Table.{store}
+use Rattle.finding.specs.Finding.{keys_below}
+use Rattle.blocks.proofs.Walking.{first_key}
+use Rattle.blocks.proofs.first_record.Goals as goal
+
+pub returns : goal.returns
+returns c =
+    c.keys_below.ensures ∙ ap (keys_below (store c.args.t.now)) (c.address_slot.ensures.number ∙ first_key)

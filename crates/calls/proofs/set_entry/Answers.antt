@@ -1,0 +1,35 @@
+-- Each return is a place in the row; the entry slot of a sound table holds a key, so there is room for another.
+-- `returns`: 33; returns-2: 66 33; returns-3: done.
+use Rattle.rules.specs.Capabilities.{number}
+use Rattle.rules.specs.Messages.{key_word}
+use Rattle.results.proofs.Rows.{negated}
+use Rattle.rules.specs.Answers.{code_number}
+use Rattle.storing.proofs.Chain.{put-ready, put-after}
+use Rattle.calls.proofs.OnePut.{as_lent, entry-room}
+use Rattle.calls.proofs.SetEntryRow.{set-entry-not-covered, set-entry-not-listed, set-entry-done}
+use Rattle.calls.proofs.set_entry.Goals as goal
+
+pub returns-then-not-index_in_range : goal.returns-then-not-index_in_range
+unfolding code_number number
+returns-then-not-index_in_range c =
+    set-entry-not-covered c.args.t.now c.args.d.now c.index_in_range.ensures (negated c.if-not-index_in_range.true)
+    c.refused.ensures
+
+pub returns-then-not-is_listed : goal.returns-then-not-is_listed
+unfolding code_number number
+returns-then-not-is_listed c =
+    set-entry-not-listed c.args.t.now c.args.d.now c.index_in_range.ensures (negated c.if-not-index_in_range.false)
+    c.key_of.ensures c.is_listed.ensures (negated c.if-not-is_listed.true) c.refused-then-not-is_listed.ensures
+
+pub put-requires : goal.put-requires
+put-requires c =
+    let g = c.requires.sound_with in
+    put-ready (as_lent g) c.entry_slot-slot.ensures c.key_word.ensures (entry-room g (key_word c.args.d.now))
+
+pub returns : goal.returns
+unfolding number
+returns c =
+    set-entry-done c.args.t.now c.args.d.now c.index_in_range.ensures (negated c.if-not-index_in_range.false)
+    c.key_of.ensures c.is_listed.ensures (negated c.if-not-is_listed.false)
+    (put-after (as_lent c.requires.sound_with) c.entry_slot-slot.ensures c.key_word.ensures c.put.ensures).table
+    c.done.ensures

@@ -1,0 +1,14 @@
+-- A guess whose record has the key, or that is the place of a key with no record, is answered at once; any other is left to `find`.
+use mathlib.Core.Path.{sym, ◌∙◌}
+use Rattle.finding.proofs.Near.{near-has, near-gap}
+use borrow.Author.Rules.{rules}
+use Rattle.finding.proofs.find_near.Goals as goal
+
+pub returns-then-has_key : goal.returns-then-has_key
+returns-then-has_key c =
+    near-has c.args.t.now _ c.args.guess (search rules) (sym c.has_key.ensures ∙ c.if-has_key.true)
+
+pub returns-then-is_place : goal.returns-then-is_place
+returns-then-is_place c =
+    near-gap c.args.t.now _ c.args.guess (search rules) (sym c.has_key.ensures ∙ c.if-has_key.false)
+    (sym c.is_place.ensures ∙ c.if-is_place.true)

@@ -1,0 +1,29 @@
+-- The index is judged as a whole word; a place's key stands behind the list length.
+use native.Mathlib.Omega.{arith}
+use Rattle.lists.proofs.LaidRows.{laid-within, laid-small}
+use Rattle.heads.proofs.HeadRows.{no_index, no_place, place-if}
+use borrow.Author.Rules.{rules}
+use Rattle.heads.proofs.names.Goals as goal
+
+pub returns-then-place-lt1 : goal.returns-then-place-lt1
+returns-then-place-lt1 c = no_index c.requires.laid _ _ c.small-place.ensures (search rules)
+
+pub returns-then-places-place : goal.returns-then-places-place
+returns-then-places-place c =
+    no_place c.requires.laid _ _ c.small-place.ensures (search rules) (search rules)
+
+pub overflow_add-list : goal.overflow_add-list
+overflow_add-list c = omega (arith, laid-small c.requires.laid)
+
+pub overflow_mul-list : goal.overflow_mul-list
+overflow_mul-list c = omega (arith, laid-small c.requires.laid)
+
+pub overflow_add-list-2 : goal.overflow_add-list-2
+overflow_add-list-2 c = omega (arith, laid-small c.requires.laid)
+
+pub word_at-there-requires : goal.word_at-there-requires
+word_at-there-requires c = omega (arith, laid-within c.requires.laid)
+
+pub returns : goal.returns
+returns c =
+    place-if c.requires.laid _ _ c.small-place.ensures (search rules) (search rules) c.word_at-there.ensures c.same_key.ensures

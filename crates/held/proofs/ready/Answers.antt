@@ -1,0 +1,7 @@
+-- A reading of the type stays as it is.
+-- One that is yet to begin has come as far as it says in any copies.
+use Rattle.held.proofs.Copies.{unread-ready}
+use Rattle.held.proofs.ready.Goals as goal
+
+pub returns-else-reading-kind : goal.returns-else-reading-kind
+returns-else-reading-kind c = unread-ready c.unread.ensures c.args.reading

@@ -1,0 +1,41 @@
+-- The loop keeps `Seeking`: none of those tested so far contains the request, the rest is left to search, and there are copies of
+-- those tested.
+use Prim.Native.Nat.{◌-◌}
+use native.Mathlib.Omega.{arith}
+use Rattle.held.proofs.Searching.{seek-start, comparable, seek-later, seek_found, seek-end}
+use Rattle.held.proofs.search_held.Goals as goal
+
+pub loop-i-init : goal.loop-i-init
+loop-i-init c =
+    seek-start c.requires.search_needs c.ready-reading.ensures c.requires.reached
+
+pub read_next-reading-requires : goal.read_next-reading-requires
+read_next-reading-requires c = (
+  c.requires.readable,
+  (c.loop-i.invariant.reached, (c.loop-i.invariant.there, omega (arith, c.loop-i.invariant.small))),
+)
+
+pub within-requires : goal.within-requires
+within-requires c =
+    comparable c.loop-i.invariant c.loop-i-test.true c.read_next-reading.ensures c.requires.search_needs
+
+pub shape_of-copies-then-within : goal.shape_of-copies-then-within
+shape_of-copies-then-within c =
+    omega (arith, c.read_next-reading.ensures.reached.size, c.requires.reached.size)
+
+pub returns-then-within : goal.returns-then-within
+returns-then-within c =
+    seek_found c.loop-i.invariant c.loop-i-test.true c.read_next-reading.ensures
+    c.within.ensures c.if-within.true
+
+pub loop-i-preserved : goal.loop-i-preserved
+loop-i-preserved c =
+    seek-later c.loop-i.invariant c.loop-i-test.true c.read_next-reading.ensures
+    c.within.ensures c.if-within.false
+
+pub shape_of-copies : goal.shape_of-copies
+shape_of-copies c =
+    omega (arith, c.loop-i.invariant.reached.size, c.requires.reached.size)
+
+pub returns : goal.returns
+returns c = seek-end c.loop-i.invariant c.loop-i-test.false

@@ -1,0 +1,37 @@
+-- What stands at the count's record is the count, and `small` answers for it; where there is no record, the count is 0.
+use Rattle.std.proofs.Common.{refl}
+use Prim.Native.Nat.{◌+◌, ◌*◌, ◌≤◌}
+use native.Mathlib.Omega.{arith}
+use lib.ListN.{length}
+use Rattle.rules.specs.Words.{num}
+use Rattle.rules.specs.Table.{store}
+use Rattle.laws.proofs.TableRecords.{formed-within}
+use Rattle.finding.proofs.Places.{Present, Absent}
+use Rattle.finding.proofs.Finding.{found, missed}
+use Rattle.holding.proofs.HeldWords.{counted, counted_none}
+use Rattle.holding.proofs.read_count.Goals as goal
+
+pub overflow_mul-value_at : goal.overflow_mul-value_at
+overflow_mul-value_at c =
+    let p = found c.args.t.now (num c.count_slot-slot.result) c.requires.form c.in-Has.ensures refl in
+    omega (arith, formed-within c.args.t.now c.requires.form, p.inside)
+
+pub overflow_add-value_at : goal.overflow_add-value_at
+overflow_add-value_at c =
+    let p = found c.args.t.now (num c.count_slot-slot.result) c.requires.form c.in-Has.ensures refl in
+    omega (arith, formed-within c.args.t.now c.requires.form, p.inside)
+
+pub word_at-requires : goal.word_at-requires
+word_at-requires c =
+    let p = found c.args.t.now (num c.count_slot-slot.result) c.requires.form c.in-Has.ensures refl in
+    omega (arith, formed-within c.args.t.now c.requires.form, p.inside)
+
+pub returns-in-Has : goal.returns-in-Has
+returns-in-Has c =
+    let p = found c.args.t.now (num c.count_slot-slot.result) c.requires.form c.in-Has.ensures refl in
+    counted c.args.t.now c.count_slot-slot.ensures (λ i. (c.shared_slice_known-1.given i).fits) c.requires.form p
+    c.word_at.ensures.is c.small.ensures
+
+pub returns-in-Gap : goal.returns-in-Gap
+returns-in-Gap c =
+    counted_none c.args.t.now c.count_slot-slot.ensures (missed c.args.t.now (num c.count_slot-slot.result) c.requires.form c.in-Gap.ensures refl)

@@ -1,0 +1,25 @@
+-- By the index: none, beyond the list, or that of a place, where the key stands or not.
+use borrow.Author.Rules.{rules}
+use Rattle.rules.specs.Table.{store}
+use Rattle.rules.specs.Words.{num}
+use Rattle.listing.proofs.Lookups.{small_at, no_index, index-beyond, index-inside}
+use Rattle.listing.proofs.listed.Goals as goal
+
+pub returns-then-index-lt1 : goal.returns-then-index-lt1
+returns-then-index-lt1 c =
+    no_index c.requires.listing (num c.args.procedure.now)
+    (small_at (store c.args.t.now) c.index_slot-index_slot.ensures c.value_at.ensures c.small-index.ensures)
+    (search rules)
+
+pub returns-then-places-index : goal.returns-then-places-index
+returns-then-places-index c =
+    index-beyond c.requires.listing (num c.args.procedure.now)
+    (small_at (store c.args.t.now) c.index_slot-index_slot.ensures c.value_at.ensures c.small-index.ensures)
+    (search rules)
+
+pub returns : goal.returns
+returns c =
+    index-inside c.requires.listing (num c.args.procedure.now)
+    (small_at (store c.args.t.now) c.index_slot-index_slot.ensures c.value_at.ensures c.small-index.ensures)
+    (search rules) (search rules)
+    c.place_slot-place_slot.ensures c.value_at-2.ensures c.same_key.ensures

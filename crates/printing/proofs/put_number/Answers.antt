@@ -1,0 +1,16 @@
+-- The space and the digits follow each other; a number of 64 bits has at most 20.
+use Rattle.decimals.proofs.Decimals.{decimal-fits}
+use Rattle.printing.proofs.Lines.{wrote-number}
+use native.Mathlib.Omega.{arith}
+use borrow.Author.Rules.{rules}
+use Rattle.printing.proofs.put_number.Goals as goal
+
+pub put_decimal-requires : goal.put_decimal-requires
+put_decimal-requires c =
+    let most = decimal-fits c.args.n (search rules) in
+    let ends = c.put-end.ensures.ends in
+    omega arith
+
+pub returns : goal.returns
+returns c =
+    wrote-number c.put-end.ensures _ (search rules) c.put_decimal.ensures

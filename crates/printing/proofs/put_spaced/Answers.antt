@@ -1,0 +1,13 @@
+-- `returns`: no bytes; returns-2: the space and the digits follow each other.
+use Rattle.writing.proofs.Texts.{wrote_none}
+use Rattle.printing.proofs.Lines.{spaced-none, wrote-spaced}
+use borrow.Author.Rules.{rules}
+use Rattle.printing.proofs.put_spaced.Goals as goal
+
+pub returns-then-bytes-eq0 : goal.returns-then-bytes-eq0
+returns-then-bytes-eq0 c =
+    (rw (spaced-none c.args.bytes.now c.if-bytes-eq0.true) (wrote_none _ _ (search rules)), search rules)
+
+pub returns : goal.returns
+returns c =
+    wrote-spaced c.put-end.ensures _ c.if-bytes-eq0.false c.put_hex.ensures

@@ -1,0 +1,23 @@
+-- A key that is there is one more than those below it; one that is not adds none.
+use Rattle.std.proofs.Common.{refl}
+use native.Mathlib.Omega.{arith}
+use Rattle.rules.specs.Words.{num}
+use Rattle.rules.specs.Table.{store}
+use Rattle.laws.proofs.TableRecords.{formed, formed-within}
+use Rattle.finding.proofs.Places.{Present, through-present, through-absent}
+use Rattle.finding.proofs.Finding.{found, missed}
+use borrow.Author.Rules.{rules}
+use Rattle.records.proofs.keys_through.Goals as goal
+
+pub overflow_add-result : goal.overflow_add-result
+overflow_add-result c =
+    let p = found c.args.t.now (num c.args.key.now) (search rules) c.in-Has.ensures refl in
+    omega (arith, formed-within c.args.t.now (search rules), p.inside)
+
+pub returns-in-Has : goal.returns-in-Has
+returns-in-Has c =
+    through-present (formed c.args.t.now (search rules)).ascends (found c.args.t.now (num c.args.key.now) (search rules) c.in-Has.ensures refl)
+
+pub returns-in-Gap : goal.returns-in-Gap
+returns-in-Gap c =
+    through-absent (missed c.args.t.now (num c.args.key.now) (search rules) c.in-Gap.ensures refl)

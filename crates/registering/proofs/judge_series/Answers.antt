@@ -1,0 +1,50 @@
+-- Each return is a place in the row.
+-- `returns`: 66 77; returns-2: 33; returns-3: 66 e1; returns-4: 66 e8; returns-5: the rest of the row.
+use native.Mathlib.Omega.{arith}
+use Rattle.results.proofs.Rows.{negated}
+use Rattle.rules.specs.Answers.{code_number}
+use Rattle.listing.proofs.Lookups.{few}
+use Rattle.acting.proofs.Holder.{occupied}
+use Rattle.registering.proofs.RegisterRow.{register-too-many, register-not-granted, register-listed, register-list-full, appendable, register-rest}
+use borrow.Author.Rules.{rules}
+use Rattle.registering.proofs.judge_series.Goals as goal
+
+pub returns-then-too_many : goal.returns-then-too_many
+unfolding code_number
+returns-then-too_many c =
+    register-too-many c.args.t.now c.args.d.now c.too_many.ensures c.if-too_many.true c.refused.ensures
+
+pub returns-then-not-grant : goal.returns-then-not-grant
+unfolding code_number
+returns-then-not-grant c =
+    register-not-granted c.args.t.now c.args.d.now c.too_many.ensures c.if-too_many.false
+    c.judge_requests-grant.ensures (negated c.if-not-grant.true) c.refused-then-not-grant.ensures
+
+pub returns-then-is_listed : goal.returns-then-is_listed
+unfolding code_number
+returns-then-is_listed c =
+    register-listed c.args.t.now c.args.d.now c.too_many.ensures c.if-too_many.false
+    c.judge_requests-grant.ensures (negated c.if-not-grant.false) c.key_of.ensures c.is_listed.ensures c.if-is_listed.true
+    c.refused-then-is_listed.ensures
+
+pub returns-then-places-eq-GREATEST_LIST : goal.returns-then-places-eq-GREATEST_LIST
+unfolding code_number
+returns-then-places-eq-GREATEST_LIST c =
+    register-list-full c.args.t.now c.args.d.now c.too_many.ensures c.if-too_many.false
+    c.judge_requests-grant.ensures (negated c.if-not-grant.false) c.key_of.ensures c.is_listed.ensures c.if-is_listed.false
+    c.list_length-places.ensures (search rules) c.refused-then-places-eq-GREATEST_LIST.ensures
+
+pub append_if_room-requires : goal.append_if_room-requires
+append_if_room-requires c =
+    let g = c.requires.sound_with in (
+      g,
+      appendable c.args.t.now c.args.d.now c.too_many.ensures c.if-too_many.false
+          c.judge_requests-grant.ensures (negated c.if-not-grant.false) c.key_of.ensures c.is_listed.ensures c.if-is_listed.false
+          c.list_length-places.ensures c.requires.judgeable (omega (arith, few (occupied g), c.list_length-places.ensures.short)),
+    )
+
+pub returns : goal.returns
+returns c =
+    register-rest c.args.t.now c.args.d.now c.too_many.ensures c.if-too_many.false
+    c.judge_requests-grant.ensures (negated c.if-not-grant.false) c.key_of.ensures c.is_listed.ensures c.if-is_listed.false
+    c.list_length-places.ensures (search rules) c.append_if_room.ensures

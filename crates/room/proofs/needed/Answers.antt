@@ -1,0 +1,40 @@
+-- Each of the four ways of `put` says how many records it makes.
+use native.Mathlib.Omega.{arith}
+use mathlib.Core.Path.{refl, sym, ◌∙◌}
+use Rattle.rules.specs.Words.{num}
+use Rattle.rules.specs.Table.{store}
+use Rattle.laws.proofs.TableRecords.{formed-within}
+use Rattle.finding.proofs.Places.{Present, Absent}
+use Rattle.finding.proofs.Finding.{found, missed}
+use Rattle.room.proofs.Ways.{one_fewer, as_many, the_same, one_more}
+use borrow.Author.Rules.{rules}
+use Rattle.room.proofs.needed.Goals as goal
+
+pub overflow_sub-result : goal.overflow_sub-result
+overflow_sub-result c = 
+    let p = found c.args.t.now (num c.args.key.now) (search rules) c.in-Has.ensures refl in
+    omega (arith, p.inside)
+
+pub overflow_add-result : goal.overflow_add-result
+overflow_add-result c =
+    omega (arith, formed-within c.args.t.now (search rules))
+
+pub returns-then-removes : goal.returns-then-removes
+returns-then-removes c =
+    let p = found c.args.t.now (num c.args.key.now) (search rules) c.in-Has.ensures refl in
+    omega (arith, one_fewer (num c.args.value.now) p (sym c.is_zero-removes.ensures ∙ c.if-removes.true))
+
+pub returns-else-removes : goal.returns-else-removes
+returns-else-removes c =
+    let p = found c.args.t.now (num c.args.key.now) (search rules) c.in-Has.ensures refl in
+    omega (arith, as_many (num c.args.value.now) p (sym c.is_zero-removes.ensures ∙ c.if-removes.false))
+
+pub returns-then-removes-2 : goal.returns-then-removes-2
+returns-then-removes-2 c =
+    let p = missed c.args.t.now (num c.args.key.now) (search rules) c.in-Gap.ensures refl in
+    omega (arith, the_same (num c.args.value.now) p (sym c.is_zero-removes.ensures ∙ c.if-removes-2.true))
+
+pub returns-else-removes-2 : goal.returns-else-removes-2
+returns-else-removes-2 c =
+    let p = missed c.args.t.now (num c.args.key.now) (search rules) c.in-Gap.ensures refl in
+    omega (arith, one_more (num c.args.value.now) p (sym c.is_zero-removes.ensures ∙ c.if-removes-2.false))

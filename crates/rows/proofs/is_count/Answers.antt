@@ -1,0 +1,9 @@
+-- The last two bytes are the last two digits of the key's number.
+use Rattle.rows.proofs.Rows.{third-decides, second-decides}
+use Rattle.rows.proofs.is_count.Goals as goal
+
+pub returns-then-end_second-eq0 : goal.returns-then-end_second-eq0
+returns-then-end_second-eq0 c = third-decides _ c.end_second.ensures c.if-end_second-eq0.true c.end_third.ensures
+
+pub returns-else-end_second-eq0 : goal.returns-else-end_second-eq0
+returns-else-end_second-eq0 c = second-decides _ c.end_second.ensures c.if-end_second-eq0.false

@@ -1,0 +1,22 @@
+-- The record form first, then the records.
+use Rattle.std.proofs.Common.{refl}
+use Rattle.soundness.proofs.Whole.{used-occupied, form-bad, store-unsound, store-sound}
+use Rattle.soundness.proofs.sound.Goals as goal
+
+pub store_sound-requires : goal.store_sound-requires
+store_sound-requires c =
+    used-occupied c.args.t.now c.in-Used.ensures refl
+
+pub returns-then-store_sound : goal.returns-then-store_sound
+returns-then-store_sound c =
+    store-sound c.args.t.now c.in-Used.ensures refl c.store_sound.ensures
+    c.if-store_sound.true
+
+pub returns-else-store_sound : goal.returns-else-store_sound
+returns-else-store_sound c =
+    store-unsound c.args.t.now c.in-Used.ensures refl c.store_sound.ensures
+    c.if-store_sound.false
+
+pub returns-in-Bad : goal.returns-in-Bad
+returns-in-Bad c =
+    form-bad c.args.t.now c.in-Bad.ensures refl

@@ -1,0 +1,61 @@
+-- Each type's row is carried out by its own function; where no other is left, the type is Write.
+use Rattle.rules.specs.Capabilities.{call, register, delete, set_entry, write, number}
+use Rattle.rules.specs.Calls.{own_row}
+use Rattle.system.proofs.OwnRow.{call-names, delete-names, set-entry-names, register-names, is-write, write-long, shown-of-kind}
+use borrow.Author.Rules.{rules}
+use Rattle.system.proofs.of_kind.Goals as goal
+
+pub call-requires : goal.call-requires
+unfolding number
+call-requires c =
+    (c.requires.sound_with, call-names c.requires.acceptable (search rules))
+
+pub returns-then-number : goal.returns-then-number
+unfolding own_row number
+returns-then-number c =
+    shown-of-kind c.args.t.now c.args.d.now c.args.code.now c.args.mask.now call (search rules) c.call.ensures
+
+pub register-requires : goal.register-requires
+unfolding number
+register-requires c =
+    (c.requires.sound_with, (register-names c.requires.acceptable (search rules), c.requires.acceptable.mask_size))
+
+pub returns-then-number-2 : goal.returns-then-number-2
+unfolding own_row number
+returns-then-number-2 c =
+    shown-of-kind c.args.t.now c.args.d.now c.args.code.now c.args.mask.now register (search rules)
+    c.register.ensures
+
+pub delete-requires : goal.delete-requires
+unfolding number
+delete-requires c =
+    (c.requires.sound_with, delete-names c.requires.acceptable (search rules))
+
+pub returns-then-number-3 : goal.returns-then-number-3
+unfolding own_row number
+returns-then-number-3 c =
+    shown-of-kind c.args.t.now c.args.d.now c.args.code.now c.args.mask.now delete (search rules)
+    c.delete.ensures
+
+pub set_entry-requires : goal.set_entry-requires
+unfolding number
+set_entry-requires c =
+    (c.requires.sound_with, set-entry-names c.requires.acceptable (search rules))
+
+pub returns-then-number-4 : goal.returns-then-number-4
+unfolding own_row number
+returns-then-number-4 c =
+    shown-of-kind c.args.t.now c.args.d.now c.args.code.now c.args.mask.now set_entry (search rules)
+    c.set_entry.ensures
+
+pub write-requires : goal.write-requires
+unfolding number
+write-requires c =
+    let a = c.requires.acceptable in
+    (c.requires.sound_with, write-long a (is-write a (search rules) (search rules) (search rules) (search rules)))
+
+pub returns : goal.returns
+unfolding own_row number
+returns c =
+    shown-of-kind c.args.t.now c.args.d.now c.args.code.now c.args.mask.now write
+    (is-write c.requires.acceptable (search rules) (search rules) (search rules) (search rules)) c.write.ensures

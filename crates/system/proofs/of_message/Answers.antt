@@ -1,0 +1,66 @@
+-- What the type names, then the row before the type's own.
+-- `returns`: 66 e0; returns-2: 66 eb; returns-3: 66 e6; returns-4: aa; returns-5: 66 eb of Null; returns-6: Null; returns-7: the row of the type.
+use mathlib.Core.Path.{refl, sym, ◌∙◌}
+use native.Mathlib.Omega.{arith}
+use borrow.Author.Tests.{ltb-false}
+use Rattle.rules.specs.Answers.{code_number}
+use Rattle.system.proofs.MessageRow.{names-null, names-unknown, names-type, null-refused, null-done, unknown-refused, short-refused, overlong-refused, leading-refused, acceptable, own_row, data-short}
+use Rattle.system.proofs.of_message.Goals as goal
+
+pub returns-then-short : goal.returns-then-short
+unfolding code_number
+returns-then-short c =
+    let type = names-type _ c.in-Of.ensures refl in
+    rw (← c.data_of-d.ensures)
+    (short-refused _ _ _ _ _ type c.short.ensures c.if-short.true c.refused-then-short.ensures)
+
+pub leading-leading-requires : goal.leading-leading-requires
+leading-leading-requires c =
+    ltb-false _ _ (sym c.short.ensures ∙ c.if-short.false)
+
+pub returns-then-overlong : goal.returns-then-overlong
+unfolding code_number
+returns-then-overlong c =
+    let type = names-type _ c.in-Of.ensures refl in
+    rw (← c.data_of-d.ensures)
+    (overlong-refused _ _ _ _ _ type c.short.ensures c.if-short.false c.overlong-overlong.ensures c.if-overlong.true
+    c.refused-then-overlong.ensures)
+
+pub returns-then-leading : goal.returns-then-leading
+unfolding code_number
+returns-then-leading c =
+    let type = names-type _ c.in-Of.ensures refl in
+    rw (← c.data_of-d.ensures)
+    (leading-refused _ _ _ _ _ type c.short.ensures c.if-short.false c.overlong-overlong.ensures c.if-overlong.false
+    c.leading-leading.ensures c.if-leading.true c.refused-then-leading.ensures)
+
+pub of_kind-requires : goal.of_kind-requires
+of_kind-requires c =
+    let type = names-type _ c.in-Of.ensures refl in (
+      c.requires.sound_with,
+      acceptable _ _ type c.short.ensures c.if-short.false c.leading-leading.ensures c.if-leading.false
+          (rw c.data_of-d.ensures (data-short _ c.requires.message_len_bound.0)) c.requires.message_len_bound.1,
+    )
+
+pub returns-in-Unknown : goal.returns-in-Unknown
+unfolding code_number
+returns-in-Unknown c =
+    unknown-refused _ _ _ _ _ (names-unknown _ c.in-Unknown.ensures refl) c.refused.ensures
+
+pub returns-then-d-gt0 : goal.returns-then-d-gt0
+unfolding code_number
+returns-then-d-gt0 c =
+    rw (← c.data_of-d.ensures)
+    (null-refused _ _ _ _ _ (names-null _ c.in-Null.ensures refl) (omega (arith, c.if-d-gt0.true)) c.refused-then-d-gt0.ensures)
+
+pub returns-else-d-gt0 : goal.returns-else-d-gt0
+returns-else-d-gt0 c =
+    rw (← c.data_of-d.ensures)
+    (null-done _ _ _ _ _ (names-null _ c.in-Null.ensures refl) c.if-d-gt0.false c.done.ensures)
+
+pub returns-else-leading : goal.returns-else-leading
+returns-else-leading c =
+    let type = names-type _ c.in-Of.ensures refl in
+    rw (← c.data_of-d.ensures)
+    (own_row _ _ _ _ _ type c.short.ensures c.if-short.false c.overlong-overlong.ensures c.if-overlong.false
+    c.leading-leading.ensures c.if-leading.false c.of_kind.ensures)

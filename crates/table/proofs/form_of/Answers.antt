@@ -1,0 +1,42 @@
+-- Each return names the part of the record form that failed, or that none did. `run` tells whether the keys ascend, and how many
+-- records are occupied.
+use native.Mathlib.Omega.{arith}
+use Rattle.std.proofs.Common.{refl, ◌≡◌, ℕ, ◌<◌, ◌≤◌, ◌%◌, length, get_or, sym, ◌∙◌}
+use Rattle.rules.specs.Words.{Bytes}
+use Rattle.laws.proofs.Numerals.{all-bytes}
+use Rattle.table.proofs.Forms.{form-not-whole, form-too-long, form-bad, Sized, used-within, form-unsorted, form-unclean, form-used}
+use borrow.Author.Rules.{rules}
+use Rattle.table.proofs.form_of.Goals as goal
+
+-- the tests before `run`
+sized : (t : Bytes) → ((i : ℕ) → get_or t i 0 < 256) → length t % 64 ≡ 0 → length t ≤ 65536 → Sized t
+sized t fit whole short = record { lent = all-bytes t fit; whole = whole; short = short }
+
+pub returns-then-t-ne0 : goal.returns-then-t-ne0
+returns-then-t-ne0 c = form-bad _ (form-not-whole _ c.if-t-ne0.true)
+
+pub returns-then-t-gt-GREATEST_TABLE : goal.returns-then-t-gt-GREATEST_TABLE
+returns-then-t-gt-GREATEST_TABLE c = form-bad _ (form-too-long _ c.if-t-ne0.false c.if-t-gt-GREATEST_TABLE.true)
+
+pub overflow_mul-end : goal.overflow_mul-end
+overflow_mul-end c =
+    omega (arith, used-within (sized c.args.t.now (λ i. (c.type_inv.t i).fits) (search rules) (search rules)) c.in-Used.ensures refl)
+
+pub slice_bounds-is_blank-count : goal.slice_bounds-is_blank-count
+slice_bounds-is_blank-count c =
+    omega (arith, used-within (sized c.args.t.now (λ i. (c.type_inv.t i).fits) (search rules) (search rules)) c.in-Used.ensures refl)
+
+pub slice_bounds-is_blank-start : goal.slice_bounds-is_blank-start
+slice_bounds-is_blank-start c =
+    omega (arith, used-within (sized c.args.t.now (λ i. (c.type_inv.t i).fits) (search rules) (search rules)) c.in-Used.ensures refl)
+
+pub returns-then-is_blank : goal.returns-then-is_blank
+returns-then-is_blank c =
+    form-used (sized c.args.t.now (λ i. (c.type_inv.t i).fits) (search rules) (search rules)) c.in-Used.ensures refl (sym c.is_blank.ensures ∙ c.if-is_blank.true)
+
+pub returns-else-is_blank : goal.returns-else-is_blank
+returns-else-is_blank c =
+    form-unclean (sized c.args.t.now (λ i. (c.type_inv.t i).fits) (search rules) (search rules)) c.in-Used.ensures refl (sym c.is_blank.ensures ∙ c.if-is_blank.false)
+
+pub returns-in-Bad : goal.returns-in-Bad
+returns-in-Bad c = form-unsorted (sized c.args.t.now (λ i. (c.type_inv.t i).fits) (search rules) (search rules)) c.in-Bad.ensures refl

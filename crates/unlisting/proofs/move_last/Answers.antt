@@ -1,0 +1,24 @@
+-- Two stores, each at a slot that is present: the freed place, and the index of the key that stood last.
+use borrow.Author.Rules.{rules}
+use Rattle.soundness.proofs.Whole.{sound-occupied}
+use Rattle.unlisting.proofs.Moving.{key-ready, index-ready, both_stored}
+use Rattle.unlisting.proofs.move_last.Goals as goal
+
+pub value_at-last-requires : goal.value_at-last-requires
+value_at-last-requires c =
+    (sound-occupied c.requires.table.sound c.requires.table.count, search rules)
+
+pub put-moved-requires : goal.put-moved-requires
+put-moved-requires c =
+    key-ready c.requires c.place_slot-last_slot.ensures c.value_at-last.ensures c.place_slot-freed_slot.ensures
+
+pub put-requires : goal.put-requires
+put-requires c =
+    index-ready c.requires c.place_slot-last_slot.ensures c.value_at-last.ensures c.place_slot-freed_slot.ensures
+    c.put-moved.ensures c.key_part.ensures c.index_slot-index_slot.ensures c.number_word-index.ensures
+
+pub returns : goal.returns
+returns c =
+    both_stored c.requires c.place_slot-last_slot.ensures c.value_at-last.ensures c.place_slot-freed_slot.ensures
+    c.put-moved.ensures c.key_part.ensures c.index_slot-index_slot.ensures c.number_word-index.ensures
+    c.put.ensures
