@@ -154,7 +154,8 @@ never-ef : (t : Bytes) (c : AnyCall) {r : Result} → any_of (λ x. eqb (code_nu
 unfolding outcome
 never-ef t c apart (refuses {c = x} h) q =
     let same : x ≡ ef = cc in
-    not-among ef (other_codes c) apart (rw (← same) h)
+    let P : Refusal → Type 0 = λ y. OneOf y (other_codes c) in
+    not-among ef (other_codes c) apart (subst P same h)
 never-ef t c apart (answers h) q = no-success (reports-succeed h) q
 never-ef t c apart (changes h) q = no-success (reports-succeed h) q
 

@@ -58,9 +58,7 @@ defined-next s g c lent =
       never_unsound = never-unsound t (ap not (length-fits t g)) (ap not (good-sound_table t g)) c;
       refused_kept = refused-kept s c;
       procedures_kept = λ q. (defined-step s g c lent q).lawful.kept;
-      registered_within = λ p h.
-          let asks : asks_to_register c p ≡ true = unfold registers in (and_left _ _ h) in
-          (defined-step s g c lent (continues (register-starts-nothing c p asks))).lawful.granted p h;
+      registered_within = λ p h. (defined-step s g c lent (continues (register-starts-nothing c p (asks p h)))).lawful.granted p h;
       writes_covered = λ w. (defined-step s g c lent (continues (write-starts-nothing c w))).lawful.wrote w;
       kernel_kept = λ w. (defined-step s g c lent (continues (write-starts-nothing c w))).lawful.kernel w;
       others_kept = λ q. (defined-step s g c lent q).lawful.others;
@@ -71,6 +69,9 @@ defined-next s g c lent =
 
     e : Event
     e = event defined s c
+
+    asks : (p : ℕ) → registers e p ≡ true → asks_to_register c p ≡ true
+    asks p h = unfold registers in (and_left _ _ h)
 
     continues : starts c ≡ false → started_anew e ≡ false
     continues h = unfold started_anew in (rw h)

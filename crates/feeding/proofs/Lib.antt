@@ -1,2 +1,3 @@
+pub mod Ends
 pub mod Rounds
 pub mod Prints

@@ -13,11 +13,10 @@ use lib.ListN.{length, take, drop, replicate, length-append, length-drop, length
 use Rattle.rules.specs.Words.{Bytes}
 use Rattle.rules.specs.Program.{line_feed, greatest_line, last_line, lines_from, lines, message_of, program_table, answers_from, program}
 use Rattle.laws.proofs.Bools.{and_right}
-use Rattle.bytes.specs.Bytes.{index_of, index_after}
 use Rattle.digits.proofs.Choices.{if-true, if-false, and-no-second}
 use Rattle.answering.specs.Answering.{answer_of}
 use Rattle.answering.proofs.Steps.{answers-step}
-use Rattle.feeding.specs.Feeding.{Between, message_left, next, has_room, has_line, answering, keeping, answered, fed, finished, turn, run, joined, ran, written}
+use Rattle.feeding.specs.Feeding.{index_after, index_of, Between, message_left, next, has_room, has_line, answering, keeping, answered, fed, finished, turn, run, joined, ran, written}
 
 pub finished-empty : (t line : Bytes) → length line ≡ 0 → finished t false line ≡ record { text = []; table = t }
 unfolding finished

@@ -12,12 +12,11 @@ use lib.Seq.{length-take-le, drop-drop, take_all, drop-length}
 use Rattle.rules.specs.Words.{Bytes}
 use Rattle.rules.specs.Program.{line_feed, greatest_line}
 use Rattle.laws.proofs.Bools.{and_both, or_left, or_right, or-first, or-second}
-use Rattle.bytes.specs.Bytes.{index_of, slice}
 use Rattle.digits.proofs.Choices.{if-true, if-false, and-no-first, and-no-second}
 use Rattle.writing.specs.Wrote.{Wrote}
 use Rattle.writing.proofs.Texts.{wrote_none, wrote-both}
 use Rattle.answering.specs.Answering.{Answered, answer_of, Answers, answer_room}
-use Rattle.feeding.specs.Feeding.{Between, message_left, next, has_room, has_line, answering, keeping, answered, fed, kept, Feeds}
+use Rattle.feeding.specs.Feeding.{index_of, Between, message_left, next, has_room, has_line, answering, keeping, answered, fed, kept, Feeds}
 use Rattle.feeding.specs.declared.Fed.{Fed}
 
 -- what the loop's variables stand for
@@ -88,10 +87,6 @@ module _ {t₀ piece out₀ t out : Bytes} {long begun : Bool} {at used : ℕ} (
   unfolding has_room here
   room-not h = lt-leb (length (take used out) + answer_room) (length out₀) (omega (arith, printed-long, f.size, f.wrote.within))
 
-  place : (end : ℕ) → end ≡ at + index_of line_feed (slice at (length piece) piece) → end ≡ at + index_of line_feed (drop at piece)
-  unfolding slice
-  place end e = e ∙ ap (λ (l : Bytes). at + index_of line_feed (drop at l)) (take_all (length piece) piece (omega arith))
-
   line-is : (end : ℕ) → end ≡ at + index_of line_feed (drop at piece) → end < length piece → has_line here ≡ true
   unfolding has_line here
   line-is end e h = lt-ltb (index_of line_feed (drop at piece)) (length (drop at piece)) (omega (arith, length-drop at piece, f.within))
@@ -101,12 +96,11 @@ module _ {t₀ piece out₀ t out : Bytes} {long begun : Bool} {at used : ℕ} (
   line-not end e h = le-ltb (index_of line_feed (drop at piece)) (length (drop at piece)) (omega (arith, length-drop at piece, f.within))
 
   pub feeding-more : {t' out' : Bytes} {used' : ℕ} (end : ℕ) → answer_room ≤ length out - used
-      → end ≡ at + index_of line_feed (slice at (length piece) piece) → end < length piece → length out' ≡ length out → length t' ≡ length t
+      → end ≡ at + index_of line_feed (drop at piece) → end < length piece → length out' ≡ length out → length t' ≡ length t
       → Answers (answer_of t (message_left begun (take (end - at) (drop at piece)))) out used used' out' t'
       → Feeding t₀ long piece out₀ t' out' false (end + 1) used'
   unfolding next here
   feeding-more {t'} {out'} {used'} end r e h s u a =
-      let p : end ≡ at + index_of line_feed (drop at piece) = place end e in
       let k : end - at ≡ index_of line_feed (drop at piece) = omega arith in
       let past : at + suc (end - at) ≡ end + 1 = omega arith in
       let left : drop (suc (end - at)) (drop at piece) ≡ drop (end + 1) piece = drop-drop (suc (end - at)) at piece ∙ ap (λ n. drop n piece) past in
@@ -121,7 +115,7 @@ module _ {t₀ piece out₀ t out : Bytes} {long begun : Bool} {at used : ℕ} (
         steps = f.steps - 1;
         enough = omega (arith, f.enough);
         same = f.same
-            ∙ step (length out₀) f.steps here (room-is r) (line-is end p h) (omega (arith, f.enough))
+            ∙ step (length out₀) f.steps here (room-is r) (line-is end e h) (omega (arith, f.enough))
             ∙ ap (answering (length out₀) (f.steps - 1)) to;
       }
 
@@ -143,7 +137,7 @@ module _ {t₀ piece out₀ t out : Bytes} {long begun : Bool} {at used : ℕ} (
         short = λ z. absurd (true≢false z);
       }
 
-  pub feeding-kept : (end : ℕ) → answer_room ≤ length out - used → end ≡ at + index_of line_feed (slice at (length piece) piece)
+  pub feeding-kept : (end : ℕ) → answer_room ≤ length out - used → end ≡ at + index_of line_feed (drop at piece)
       → end ≡ length piece → (r : Fed) → r ≡ kept (length piece) at begun used → Feeds t₀ long piece out₀ r out t
   unfolding here kept keeping
   feeding-kept end h e n r q = go (begun || ltb greatest_line (length piece - at)) refl
@@ -155,7 +149,7 @@ module _ {t₀ piece out₀ t out : Bytes} {long begun : Bool} {at used : ℕ} (
       all =
           f.same
           ∙ stop (length out₀) f.steps here
-          (and-no-second (has_room (length out₀) here) _ (line-not end (place end e) (omega arith)))
+          (and-no-second (has_room (length out₀) here) _ (line-not end e (omega arith)))
 
       is : fed (length out₀) t₀ long piece ≡ keeping here
       is = fed-kept (length out₀) t₀ long piece here all some-room

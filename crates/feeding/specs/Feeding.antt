@@ -1,13 +1,21 @@
 -- The input in pieces. What is printed for the pieces, in whatever way the input is cut, is what the rules print for the whole of it
 -- (`run-prints`).
-use Rattle.std.specs.Prelude.{ℕ, zero, suc, ◌+◌, ◌-◌, ◌≤◌, ◌≡◌, List, [], ◌∷◌, ◌++◌, Bool, true, false, not, ◌&&◌, ◌||◌, leb, ltb, length, take, drop}
+use Rattle.std.specs.Prelude.{ℕ, zero, suc, ◌+◌, ◌-◌, ◌≤◌, ◌≡◌, List, [], ◌∷◌, ◌++◌, Bool, true, false, not, ◌&&◌, ◌||◌, eqb, leb, ltb, length, take, drop}
 use Rattle.std.proofs.Math.Option.{Option, none}
 use Rattle.rules.specs.Words.{Bytes}
 use Rattle.rules.specs.Program.{line_feed, greatest_line, message_of, program_table}
-use Rattle.bytes.specs.Bytes.{index_of}
 use Rattle.writing.specs.Wrote.{Wrote}
 use Rattle.answering.specs.Answering.{Answered, answer_of, answer_room}
 use Rattle.feeding.specs.declared.Fed.{Fed}
+
+-- where a byte stands first; the number of the bytes if it is not among them
+unfoldable pub index_after : Bool → ℕ → ℕ
+index_after true n = zero
+index_after false n = suc n
+
+unfoldable pub index_of : (byte : ℕ) → Bytes → ℕ
+index_of byte [] = zero
+index_of byte (b ∷ bs) = index_after (eqb b byte) (index_of byte bs)
 
 -- What stands between two lines of a piece: the table, what has been printed, whether the line that begins here is too long already,
 -- and so its beginning dropped, and the bytes that are left.

@@ -1,8 +1,9 @@
 #![tactic(auto)]
 // The program's input in pieces: each whole line of a piece is answered, and what is left of it begins the next piece.
-ghost use Rattle.std.specs.Prelude.{◌+◌, ◌≤◌, ◌≡◌, length};
+ghost use Rattle.std.specs.Prelude.{◌+◌, ◌≤◌, ◌≡◌, length, drop};
+ghost use Rattle.rules.specs.Program.{line_feed};
 ghost use Rattle.answering.specs.Answering.{answer_of, Answers, answer_room};
-ghost use Rattle.feeding.specs.Feeding.{message_left, kept, Feeds, finished};
+ghost use Rattle.feeding.specs.Feeding.{index_of, message_left, kept, Feeds, finished};
 
 // What came of a piece: how many of its bytes are taken, whether they end within a line that is too long already, how many bytes of
 // answers there are, and whether there was no room for more of them.
@@ -54,6 +55,21 @@ fn keep(n: usize, at: usize, long: bool, used: usize) -> Fed
     }
 }
 
+// Where the first line feed stands from `at` on; the piece's length if there is none.
+fn line_end(piece: &[u8], at: usize) -> usize
+    requires { at ≤ length piece.now }
+    ensures { result ≡ at + index_of line_feed (drop at piece.now) }
+{
+    let mut i = at;
+    while i < piece.len() {
+        if piece[i] == b'\n' {
+            return i;
+        }
+        i += 1;
+    }
+    i
+}
+
 // Answers the whole lines of a piece, while there is room.
 pub fn feed(t: &mut [u8], piece: &[u8], long: bool, out: &mut [u8]) -> Fed
     ensures { Feeds t.old long piece.now out.old result out.new t.new }
@@ -63,7 +79,7 @@ pub fn feed(t: &mut [u8], piece: &[u8], long: bool, out: &mut [u8]) -> Fed
     let mut at: usize = 0;
     let mut used: usize = 0;
     while answering::ANSWER_ROOM <= out.len() - used {
-        let end = bytes::scan::find(piece, at, n, b'\n');
+        let end = line_end(piece, at);
         if end == n {
             return keep(n, at, begun, used);
         }

@@ -8,7 +8,7 @@ use Rattle.acting.proofs.current.Goals as goal
 
 pub value_at-requires : goal.value_at-requires
 value_at-requires c =
-    (occupied c.requires, search rules)
+    record { occupied = occupied c.requires; slot_len = search rules }
 
 pub returns : goal.returns
 returns c =

@@ -2,7 +2,7 @@
 use Prim.Native.Nat.{ℕ}
 use native.Mathlib.Omega.{arith}
 use mathlib.Core.Path.{◌≡◌, ap, ◌∙◌}
-use Rattle.rules.specs.Words.{num}
+use Rattle.rules.specs.Words.{Bytes, num}
 use Rattle.rules.specs.Table.{store}
 use Rattle.rules.specs.KernelStorage.{address_slot}
 use Rattle.finding.specs.Finding.{keys_below}
@@ -11,36 +11,35 @@ use borrow.Author.Rules.{rules}
 use Rattle.appending.proofs.insert_procedure.Goals as goal
 
 -- the place of the first record
-place : (c : tie.After-keys-below)
-    → (let a = c.args in c.keys_below-i.result ≡ keys_below (store a.t.now) (address_slot (num a.procedure.now)))
-place c =
-    c.keys_below-i.ensures ∙ ap (λ (k : ℕ). keys_below (store c.args.t.now) k) c.address_slot-first.ensures.number
+place : (t procedure : Bytes) (i low : ℕ) → i ≡ keys_below (store t) low → low ≡ address_slot (num procedure)
+    → i ≡ keys_below (store t) (address_slot (num procedure))
+place t procedure i low found first = found ∙ ap (λ (k : ℕ). keys_below (store t) k) first
 
 pub make_room-requires : goal.make_room-requires
 make_room-requires c =
-    room_fits c.requires (place found)
+    room_fits c.requires (place c.args.t.now c.args.procedure.now _ _ c.keys_below-i.ensures c.address_slot-first.ensures.number)
 
 pub overflow_add-end : goal.overflow_add-end
 overflow_add-end c =
-    omega (arith, room_small c.requires (place found))
+    omega (arith, room_small c.requires (place c.args.t.now c.args.procedure.now _ _ c.keys_below-i.ensures c.address_slot-first.ensures.number))
 
 pub overflow_mul-end : goal.overflow_mul-end
 overflow_mul-end c =
-    omega (arith, room_small c.requires (place found))
+    omega (arith, room_small c.requires (place c.args.t.now c.args.procedure.now _ _ c.keys_below-i.ensures c.address_slot-first.ensures.number))
 
 pub slice_bounds-put_procedure-end : goal.slice_bounds-put_procedure-end
 slice_bounds-put_procedure-end c =
-    let within = part-within c.requires (place found) c.make_room.ensures in search rules
+    let within = part-within c.requires (place c.args.t.now c.args.procedure.now _ _ c.keys_below-i.ensures c.address_slot-first.ensures.number) c.make_room.ensures in search rules
 
 pub put_procedure-requires : goal.put_procedure-requires
 put_procedure-requires c =
-    procedure-needs c.requires (place found) c.make_room.ensures
+    procedure-needs c.requires (place c.args.t.now c.args.procedure.now _ _ c.keys_below-i.ensures c.address_slot-first.ensures.number) c.make_room.ensures
 
 pub overflow_add-result : goal.overflow_add-result
 overflow_add-result c =
-    omega (arith, room_small c.requires (place found))
+    omega (arith, room_small c.requires (place c.args.t.now c.args.procedure.now _ _ c.keys_below-i.ensures c.address_slot-first.ensures.number))
 
 pub returns : goal.returns
 returns c =
-    procedure-inserted c.requires (place found) c.make_room.ensures
+    procedure-inserted c.requires (place c.args.t.now c.args.procedure.now _ _ c.keys_below-i.ensures c.address_slot-first.ensures.number) c.make_room.ensures
     c.put_procedure.ensures

@@ -15,7 +15,7 @@ pub later-requires : goal.later-requires
 later-requires c =
     let turn = c.loop-i in
     let after = after_first turn.invariant (search rules) c.continues.ensures c.if-continues.true in
-    (has-record turn.invariant (search rules), omega arith)
+    record { has_record = has-record turn.invariant (search rules); le_i = omega arith }
 
 pub counted-count-requires : goal.counted-count-requires
 counted-count-requires c = has-record c.loop-i.invariant (search rules)

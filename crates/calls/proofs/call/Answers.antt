@@ -14,7 +14,7 @@ use Rattle.calls.proofs.call.Goals as goal
 pub permits-requires : goal.permits-requires
 unfolding number
 permits-requires c =
-    (c.requires.sound_with, acts-on-key call refl c.requires.names_key c.key_word.ensures)
+    record { sound_with = c.requires.sound_with; acts_on = acts-on-key call refl c.requires.names_key c.key_word.ensures }
 
 pub returns-then-not-permits : goal.returns-then-not-permits
 unfolding code_number number

@@ -15,7 +15,7 @@ use Rattle.calls.proofs.write.Goals as goal
 pub permits-requires : goal.permits-requires
 unfolding number
 permits-requires c =
-    (c.requires.sound_with, acts-on-address refl c.requires.word_bytes_in_bounds c.write_address-address.ensures)
+    record { sound_with = c.requires.sound_with; acts_on = acts-on-address refl c.requires.word_bytes_in_bounds c.write_address-address.ensures }
 
 pub returns-then-not-permits : goal.returns-then-not-permits
 unfolding code_number number
@@ -32,7 +32,7 @@ returns-then-in_kernel_storage c =
 pub needed-requires : goal.needed-requires
 needed-requires c =
     let g = c.requires.sound_with in
-    ((occupied g).form, (g.count, (c.write_address-address.ensures.size, c.write_value-value.ensures.size)))
+    record { t_value = (occupied g).form; used_value = g.count; key_len = (c.write_address-address.ensures.size, c.write_value-value.ensures.size) }
 
 pub returns-then-t-needed : goal.returns-then-t-needed
 unfolding code_number number

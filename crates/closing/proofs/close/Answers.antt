@@ -11,5 +11,5 @@ returns c =
     let a = c.args in
     let shift = c.shift_left in
     let clear = c.clear in
-    close-leaves a.t.now shift.new.0 clear.new.0 (64 * a.i) (64 * a.j) (64 * a.used) (omega arith) (omega arith) (omega arith)
+    close-leaves a.t.now shift.new.bytes clear.new.bytes (64 * a.i) (64 * a.j) (64 * a.used) (omega arith) (omega arith) (omega arith)
     shift.ensures clear.ensures

@@ -11,7 +11,7 @@ use Rattle.deleting.proofs.delete.Goals as goal
 pub permits-requires : goal.permits-requires
 unfolding number
 permits-requires c =
-    (c.requires.sound_with, acts-on-key delete refl c.requires.names_key c.key_word.ensures)
+    record { sound_with = c.requires.sound_with; acts_on = acts-on-key delete refl c.requires.names_key c.key_word.ensures }
 
 pub returns-then-not-permits : goal.returns-then-not-permits
 unfolding code_number number

@@ -14,9 +14,9 @@ returns-then-line-ne0 c = odd _ _ (search rules) c.if-line-ne0.true
 pub returns-then-decode_pairs-eq0 : goal.returns-then-decode_pairs-eq0
 returns-then-decode_pairs-eq0 c =
     let e = c.decode_pairs.ensures in
-    all_digits _ _ (search rules) (search rules) _ (sym e.0 ∙ c.if-decode_pairs-eq0.true) e.1
+    all_digits _ _ (search rules) (search rules) _ (sym e.value ∙ c.if-decode_pairs-eq0.true) e.to_after
 
 pub returns-else-decode_pairs-eq0 : goal.returns-else-decode_pairs-eq0
 returns-else-decode_pairs-eq0 c =
     let e = c.decode_pairs.ensures in
-    some-other _ _ (search rules) (search rules) _ (λ z. c.if-decode_pairs-eq0.false (e.0 ∙ z)) e.1
+    some-other _ _ (search rules) (search rules) _ (λ z. c.if-decode_pairs-eq0.false (e.value ∙ z)) e.to_after

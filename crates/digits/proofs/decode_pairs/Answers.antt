@@ -16,4 +16,4 @@ loop-i-preserved c =
     (c.others_of-wrong.ensures.value ∙ ap₂ others_of c.value-high.ensures.value c.value-low.ensures.value) c.others_of-wrong.ensures.upper_bound
 
 pub returns : goal.returns
-returns c = decoded-all c.loop-i.invariant (search rules)
+returns c = let d = decoded-all c.loop-i.invariant (search rules) in record { value = d.0; to_after = d.1 }

@@ -13,5 +13,5 @@ returns c =
     let shift = c.shift_right in
     let first = c.copy_word in
     let second = c.copy_word-2 in
-    insert-leaves a.t.now shift.new.0 a.key.now a.value.now first.new.0 second.new.0 (64 * a.i) (64 * a.used) (omega arith) (omega arith)
+    insert-leaves a.t.now shift.new.bytes a.key.now a.value.now first.new.to second.new.to (64 * a.i) (64 * a.used) (omega arith) (omega arith)
     shift.ensures first.ensures second.ensures (search rules) (search rules)

@@ -10,5 +10,5 @@ unfolding opened
 returns c =
     let a = c.args in
     let shift = c.shift_right in
-    open-leaves a.t.now shift.new.0 c.clear.new.0 (64 * a.i) (64 * a.count) (64 * a.used) (omega arith) (omega arith)
+    open-leaves a.t.now shift.new.bytes c.clear.new.bytes (64 * a.i) (64 * a.count) (64 * a.used) (omega arith) (omega arith)
     shift.ensures c.clear.ensures

@@ -10,4 +10,4 @@ unfolding replaced
 returns c =
     let a = c.args in
     let copy = c.copy_word in
-    replace-leaves a.t.now a.value.now copy.new.0 (64 * a.i + 32) (64 * a.i + 64) (omega arith) copy.ensures
+    replace-leaves a.t.now a.value.now copy.new.to (64 * a.i + 32) (64 * a.i + 64) (omega arith) copy.ensures

@@ -16,7 +16,7 @@ returns-then-slot-ne-WORD_BYTES c =
 pub look-requires : goal.look-requires
 look-requires c =
     let g = sound-with c.args.t.now c.in-Sound.ensures refl in
-    ((occupied g).form, (g.count, search rules))
+    record { t_value = (occupied g).form; used_value = g.count; key_len = search rules }
 
 pub returns-in-Unsound : goal.returns-in-Unsound
 unfolding code_number

@@ -26,7 +26,7 @@ returns-then-message-gt-GREATEST_MESSAGE c =
 
 pub of_message-requires : goal.of_message-requires
 of_message-requires c =
-    (sound-with c.args.t.now c.in-Sound.ensures refl, search rules)
+    record { sound_with = sound-with c.args.t.now c.in-Sound.ensures refl; message_len_bound = search rules }
 
 pub returns-in-Unsound : goal.returns-in-Unsound
 unfolding code_number

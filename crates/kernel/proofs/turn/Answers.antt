@@ -14,7 +14,7 @@ returns-then-running-ne-KEY_BYTES c =
 
 pub turn_to-requires : goal.turn_to-requires
 turn_to-requires c =
-    (sound-with c.args.t.now c.in-Sound.ensures refl, search rules)
+    record { sound_with = sound-with c.args.t.now c.in-Sound.ensures refl; key_len = search rules }
 
 pub returns-in-Unsound : goal.returns-in-Unsound
 unfolding code_number

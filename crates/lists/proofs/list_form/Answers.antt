@@ -26,7 +26,7 @@ word_at-value-requires c = omega (arith, within c.requires.occupied)
 pub places_follow-requires : goal.places_follow-requires
 places_follow-requires c =
     let key = length-key c.requires.occupied c.requires.list_value (search rules) c.length_slot.ensures c.has_key.ensures c.if-has_key.true in
-    (c.requires.occupied, (search rules, key))
+    record { occupied = c.requires.occupied; list_bound = (search rules, key) }
 
 pub returns-then-small-used : goal.returns-then-small-used
 returns-then-small-used c =

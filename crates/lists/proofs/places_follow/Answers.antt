@@ -21,7 +21,7 @@ word_at-requires c = omega (arith, within c.requires.occupied)
 
 pub is_place-requires : goal.is_place-requires
 is_place-requires c =
-    ((search rules, search rules), (c.word_at-start.ensures.number ∙ c.requires.list_bound.1, search rules))
+    record { key_len = (search rules, search rules); start_value = (c.word_at-start.ensures.number ∙ c.requires.list_bound.1, search rules) }
 
 pub loop-i-preserved : goal.loop-i-preserved
 loop-i-preserved c =

@@ -3,7 +3,6 @@
 use Prim.Native.Nat.{◌-◌}
 use native.Mathlib.Omega.{arith}
 use mathlib.Core.Path.{sym, ◌∙◌}
-use borrow.Author.Tests.{not-false}
 use Rattle.opcodes.proofs.Walks.{walked_none, walked-plain}
 use Rattle.opcodes.proofs.plain_end.Goals as goal
 
@@ -24,7 +23,7 @@ loop-i-smaller c = omega arith
 
 pub loop-i-preserved : goal.loop-i-preserved
 loop-i-preserved c =
-    walked-plain c.loop-i.invariant (omega arith) (sym (not-false _ c.if-not-allowed.false) ∙ c.allowed.ensures)
+    walked-plain c.loop-i.invariant (omega arith) (sym c.if-not-allowed.false ∙ c.allowed.ensures)
     (sym c.if-data_bytes-ne0.false ∙ c.data_bytes.ensures)
 
 pub returns : goal.returns

@@ -4,7 +4,6 @@
 use Prim.Native.Nat.{◌-◌}
 use native.Mathlib.Omega.{arith}
 use mathlib.Core.Path.{sym, ◌∙◌}
-use borrow.Author.Tests.{not-true, not-false}
 use Rattle.opcodes.proofs.Walks.{data-most, walked_none, walked_on, walked_more, walked_stop, walked_all}
 use Rattle.opcodes.proofs.walk.Goals as goal
 
@@ -18,7 +17,7 @@ returns-then-code-at c =
 pub returns-then-not-allowed : goal.returns-then-not-allowed
 returns-then-not-allowed c =
     walked_stop (walked_on c.loop-i.invariant c.plain_end-at.ensures.0 c.plain_end-at.ensures.1) c.if-code-at.false
-    (sym (not-true _ c.if-not-allowed.true) ∙ c.allowed.ensures)
+    (sym c.if-not-allowed.true ∙ c.allowed.ensures)
 
 pub overflow_add-i : goal.overflow_add-i
 overflow_add-i c = omega arith
@@ -32,7 +31,7 @@ loop-i-smaller c = omega (arith, c.plain_end-at.ensures.0)
 pub loop-i-preserved : goal.loop-i-preserved
 loop-i-preserved c =
     walked_more (walked_on c.loop-i.invariant c.plain_end-at.ensures.0 c.plain_end-at.ensures.1) c.if-code-at.false
-    (sym (not-false _ c.if-not-allowed.false) ∙ c.allowed.ensures) c.data_bytes.ensures
+    (sym c.if-not-allowed.false ∙ c.allowed.ensures) c.data_bytes.ensures
 
 pub returns : goal.returns
 returns c = walked_all c.loop-i.invariant (omega arith)

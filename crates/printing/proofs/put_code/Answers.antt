@@ -9,7 +9,8 @@ use Rattle.printing.proofs.put_code.Goals as goal
 
 pub returns-then-code-lt256 : goal.returns-then-code-lt256
 returns-then-code-lt256 c =
-    wrote-code-one c.put-first.ensures _ c.if-code-lt256.true c.put_byte.ensures
+    let p = wrote-code-one c.put-first.ensures c.args.code c.if-code-lt256.true c.put_byte.ensures in
+    record { wrote = p.0; upper_bound = p.1 }
 
 pub put_byte-requires-2 : goal.put_byte-requires-2
 put_byte-requires-2 c =
@@ -19,4 +20,5 @@ put_byte-requires-2 c =
 
 pub returns : goal.returns
 returns c =
-    wrote-code-two c.put-first.ensures _ (search rules) c.put_byte-second.ensures c.put_byte-2.ensures
+    let p = wrote-code-two c.put-first.ensures c.args.code (search rules) c.put_byte-second.ensures c.put_byte-2.ensures in
+    record { wrote = p.0; upper_bound = p.1 }

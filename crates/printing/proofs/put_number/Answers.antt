@@ -13,4 +13,5 @@ put_decimal-requires c =
 
 pub returns : goal.returns
 returns c =
-    wrote-number c.put-end.ensures _ (search rules) c.put_decimal.ensures
+    let p = wrote-number c.put-end.ensures c.args.n (search rules) c.put_decimal.ensures in
+    record { wrote = p.0; upper_bound = p.1 }

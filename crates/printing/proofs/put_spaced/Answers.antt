@@ -6,8 +6,9 @@ use Rattle.printing.proofs.put_spaced.Goals as goal
 
 pub returns-then-bytes-eq0 : goal.returns-then-bytes-eq0
 returns-then-bytes-eq0 c =
-    (rw (spaced-none c.args.bytes.now c.if-bytes-eq0.true) (wrote_none _ _ (search rules)), search rules)
+    record { wrote = rw (spaced-none c.args.bytes.now c.if-bytes-eq0.true) (wrote_none _ _ (search rules)); upper_bound = search rules }
 
 pub returns : goal.returns
 returns c =
-    wrote-spaced c.put-end.ensures _ c.if-bytes-eq0.false c.put_hex.ensures
+    let p = wrote-spaced c.put-end.ensures c.args.bytes.now c.if-bytes-eq0.false c.put_hex.ensures in
+    record { wrote = p.0; upper_bound = p.1 }

@@ -36,12 +36,12 @@ returns-then-places-eq-GREATEST_LIST c =
 
 pub append_if_room-requires : goal.append_if_room-requires
 append_if_room-requires c =
-    let g = c.requires.sound_with in (
-      g,
-      appendable c.args.t.now c.args.d.now c.too_many.ensures c.if-too_many.false
+    let g = c.requires.sound_with in record {
+      sound_with = g;
+      appendable = appendable c.args.t.now c.args.d.now c.too_many.ensures c.if-too_many.false
           c.judge_requests-grant.ensures (negated c.if-not-grant.false) c.key_of.ensures c.is_listed.ensures c.if-is_listed.false
-          c.list_length-places.ensures c.requires.judgeable (omega (arith, few (occupied g), c.list_length-places.ensures.short)),
-    )
+          c.list_length-places.ensures c.requires.judgeable (omega (arith, few (occupied g), c.list_length-places.ensures.short));
+    }
 
 pub returns : goal.returns
 returns c =

@@ -21,7 +21,7 @@ returns-then-is_zero-2 c =
 pub permits-requires : goal.permits-requires
 unfolding number
 permits-requires c =
-    (c.requires.sound_with, acts-on-procedure c.requires.names_procedure c.key_word-key.ensures)
+    record { sound_with = c.requires.sound_with; acts_on = acts-on-procedure c.requires.names_procedure c.key_word-key.ensures }
 
 pub returns-then-not-permits : goal.returns-then-not-permits
 unfolding code_number number
@@ -47,14 +47,14 @@ returns-then-not-well_formed c =
 
 pub judge_series-requires : goal.judge_series-requires
 unfolding number
-judge_series-requires c = (
-  c.requires.sound_with,
-  judgeable c.args.t.now c.args.d.now c.args.code.now c.args.mask.now c.key_word-key.ensures
+judge_series-requires c = record {
+  sound_with = c.requires.sound_with;
+  judgeable = judgeable c.args.t.now c.args.d.now c.args.code.now c.args.mask.now c.key_word-key.ensures
       c.is_zero.ensures c.if-is_zero.false c.address_word.ensures c.is_zero-2.ensures c.if-is_zero-2.false
       c.permits.ensures (negated c.if-not-permits.false) c.passes.ensures (negated c.if-not-passes.false)
       c.well_formed-2.ensures
-      c.requires.names_procedure (negated c.if-not-well_formed.false),
-)
+      c.requires.names_procedure (negated c.if-not-well_formed.false);
+}
 
 pub returns : goal.returns
 unfolding number

@@ -1,7 +1,6 @@
 -- Each return is one of the laws of `Read`: a test that failed, or all of them passed.
 use mathlib.Core.Path.{sym, ◌∙◌}
 use native.Mathlib.Omega.{arith}
-use borrow.Author.Tests.{not-true, not-false}
 use Rattle.requests.proofs.Read.{too_short, wrong_type, wrong_size, cut-end, wrong-prefix, all-good}
 use Rattle.requests.proofs.request_bytes.Goals as goal
 
@@ -11,7 +10,7 @@ returns-then-left-lt-HEAD c = too_short c.args.d.now c.args.at c.if-left-lt-HEAD
 pub returns-then-not-known : goal.returns-then-not-known
 returns-then-not-known c =
     wrong_type c.args.d.now c.args.at c.small_at.result c.small_at.ensures
-    (sym c.known.ensures ∙ not-true _ c.if-not-known.true)
+    (sym c.known.ensures ∙ c.if-not-known.true)
 
 pub returns-then-small_at-words : goal.returns-then-small_at-words
 returns-then-small_at-words c =
@@ -25,12 +24,12 @@ returns-then-left-bytes c =
 
 pub prefix_in_range-requires : goal.prefix_in_range-requires
 prefix_in_range-requires c =
-    let known = sym c.known.ensures ∙ not-false _ c.if-not-known.false in
+    let known = sym c.known.ensures ∙ c.if-not-known.false in
     (known, omega (arith, c.words-words.ensures.count))
 
 pub returns-then-prefix_in_range : goal.returns-then-prefix_in_range
 returns-then-prefix_in_range c =
-    let known = sym c.known.ensures ∙ not-false _ c.if-not-known.false in
+    let known = sym c.known.ensures ∙ c.if-not-known.false in
     all-good c.args.d.now c.args.at c.small_at.result c.small_at.ensures
     c.words-words.result c.words-words.ensures.count c.small_at-2.result c.small_at-2.ensures
     known c.if-small_at-words.false (omega arith) c.if-left-bytes.false

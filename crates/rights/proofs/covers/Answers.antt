@@ -21,7 +21,7 @@ pub covers_key-requires : goal.covers_key-requires
 covers_key-requires c =
     let need = c.requires in
     let t = prefixed need.kind need.names c.if-number.false c.if-number-2.false in
-    ((search rules, search rules), prefix-fits t c.word_at-first.ensures need.in_range)
+    record { capability_len = (search rules, search rules); capability_bound = prefix-fits t c.word_at-first.ensures need.in_range }
 
 pub returns-then-number-2 : goal.returns-then-number-2
 returns-then-number-2 c = λ k p.

@@ -30,7 +30,7 @@ pub within_prefix-requires : goal.within_prefix-requires
 within_prefix-requires c =
     let need = c.requires in
     let t = prefixed need.kind need.names c.if-number.false c.if-number-2.false in
-    ((search rules, search rules), prefix-fits t c.word_at-a_first.ensures need.in_range)
+    record { b_len = (search rules, search rules); a_bound = prefix-fits t c.word_at-a_first.ensures need.in_range }
 
 pub returns-then-number-2 : goal.returns-then-number-2
 returns-then-number-2 c = λ k p.

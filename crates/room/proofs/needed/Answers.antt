@@ -11,7 +11,7 @@ use borrow.Author.Rules.{rules}
 use Rattle.room.proofs.needed.Goals as goal
 
 pub overflow_sub-result : goal.overflow_sub-result
-overflow_sub-result c = 
+overflow_sub-result c =
     let p = found c.args.t.now (num c.args.key.now) (search rules) c.in-Has.ensures refl in
     omega (arith, p.inside)
 

@@ -7,7 +7,7 @@ use Rattle.soundness.proofs.list_length.Goals as goal
 
 pub value_at-requires : goal.value_at-requires
 value_at-requires c =
-    (sound-occupied c.requires.t_value c.requires.used_value, search rules)
+    record { occupied = sound-occupied c.requires.t_value c.requires.used_value; slot_len = search rules }
 
 pub returns : goal.returns
 returns c =

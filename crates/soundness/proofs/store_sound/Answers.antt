@@ -5,7 +5,7 @@ use Rattle.soundness.proofs.store_sound.Goals as goal
 
 pub list_form-requires : goal.list_form-requires
 list_form-requires c =
-    (c.requires, before-list c.requires c.length_slot.ensures c.keys_below-list.ensures)
+    record { occupied = c.requires; list_value = before-list c.requires c.length_slot.ensures c.keys_below-list.ensures }
 
 pub overflow_sub-places : goal.overflow_sub-places
 overflow_sub-places c =
@@ -17,7 +17,7 @@ overflow_sub-places-then-list_form c =
 
 pub blocks_form-requires : goal.blocks_form-requires
 blocks_form-requires c =
-    (c.requires, laid c.requires c.length_slot.ensures c.keys_below-list.ensures c.list_form.ensures c.if-list_form.true)
+    record { occupied = c.requires; laid = laid c.requires c.length_slot.ensures c.keys_below-list.ensures c.list_form.ensures c.if-list_form.true }
 
 pub rest_sound-requires : goal.rest_sound-requires
 rest_sound-requires c =

@@ -8,7 +8,7 @@ use Rattle.system.proofs.of_kind.Goals as goal
 pub call-requires : goal.call-requires
 unfolding number
 call-requires c =
-    (c.requires.sound_with, call-names c.requires.acceptable (search rules))
+    record { sound_with = c.requires.sound_with; names_key = call-names c.requires.acceptable (search rules) }
 
 pub returns-then-number : goal.returns-then-number
 unfolding own_row number
@@ -18,7 +18,7 @@ returns-then-number c =
 pub register-requires : goal.register-requires
 unfolding number
 register-requires c =
-    (c.requires.sound_with, (register-names c.requires.acceptable (search rules), c.requires.acceptable.mask_size))
+    record { sound_with = c.requires.sound_with; names_procedure = register-names c.requires.acceptable (search rules); mask_len = c.requires.acceptable.mask_size }
 
 pub returns-then-number-2 : goal.returns-then-number-2
 unfolding own_row number
@@ -29,7 +29,7 @@ returns-then-number-2 c =
 pub delete-requires : goal.delete-requires
 unfolding number
 delete-requires c =
-    (c.requires.sound_with, delete-names c.requires.acceptable (search rules))
+    record { sound_with = c.requires.sound_with; names_key = delete-names c.requires.acceptable (search rules) }
 
 pub returns-then-number-3 : goal.returns-then-number-3
 unfolding own_row number
@@ -40,7 +40,7 @@ returns-then-number-3 c =
 pub set_entry-requires : goal.set_entry-requires
 unfolding number
 set_entry-requires c =
-    (c.requires.sound_with, set-entry-names c.requires.acceptable (search rules))
+    record { sound_with = c.requires.sound_with; names_key = set-entry-names c.requires.acceptable (search rules) }
 
 pub returns-then-number-4 : goal.returns-then-number-4
 unfolding own_row number
@@ -52,7 +52,7 @@ pub write-requires : goal.write-requires
 unfolding number
 write-requires c =
     let a = c.requires.acceptable in
-    (c.requires.sound_with, write-long a (is-write a (search rules) (search rules) (search rules) (search rules)))
+    record { sound_with = c.requires.sound_with; word_bytes_in_bounds = write-long a (is-write a (search rules) (search rules) (search rules) (search rules)) }
 
 pub returns : goal.returns
 unfolding own_row number

@@ -36,11 +36,11 @@ returns-then-leading c =
 
 pub of_kind-requires : goal.of_kind-requires
 of_kind-requires c =
-    let type = names-type _ c.in-Of.ensures refl in (
-      c.requires.sound_with,
-      acceptable _ _ type c.short.ensures c.if-short.false c.leading-leading.ensures c.if-leading.false
-          (rw c.data_of-d.ensures (data-short _ c.requires.message_len_bound.0)) c.requires.message_len_bound.1,
-    )
+    let type = names-type _ c.in-Of.ensures refl in record {
+      sound_with = c.requires.sound_with;
+      acceptable = acceptable _ _ type c.short.ensures c.if-short.false c.leading-leading.ensures c.if-leading.false
+          (rw c.data_of-d.ensures (data-short _ c.requires.message_len_bound.0)) c.requires.message_len_bound.1;
+    }
 
 pub returns-in-Unknown : goal.returns-in-Unknown
 unfolding code_number

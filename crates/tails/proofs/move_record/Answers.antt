@@ -5,4 +5,4 @@ use Rattle.tails.proofs.move_record.Goals as goal
 pub returns : goal.returns
 returns c =
     let a = c.args in
-    record-leaves a.bytes.now c.copy.new.0 c.copy-2.new.0 a.from a.to c.copy.ensures c.copy-2.ensures
+    record-leaves a.bytes.now c.copy.new.to c.copy-2.new.to a.from a.to c.copy.ensures c.copy-2.ensures

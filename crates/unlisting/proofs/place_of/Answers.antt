@@ -8,7 +8,7 @@ use Rattle.unlisting.proofs.place_of.Goals as goal
 
 pub value_at-requires : goal.value_at-requires
 value_at-requires c =
-    (sound-occupied c.requires.table.sound c.requires.table.count, search rules)
+    record { occupied = sound-occupied c.requires.table.sound c.requires.table.count; slot_len = search rules }
 
 pub returns : goal.returns
 returns c =

@@ -1,0 +1,29 @@
+-- The digits before the last one and the last one follow each other.
+use Rattle.std.proofs.Common.{length, ap, arith, rules}
+use Rattle.writing.proofs.Texts.{wrote-both}
+use Rattle.decimals.proofs.Decimals.{decimal-one, decimal-more, decimal-longer}
+use Rattle.decimals.proofs.+put_decimal.Goals as goal
+
+pub put-requires : goal.put-requires
+put-requires t c =
+    let one = ap length (decimal-one c.args.n c.if-n-lt10.true) in
+    omega (arith, c.requires)
+
+pub returns-then-n-lt10 : goal.returns-then-n-lt10
+returns-then-n-lt10 t c = rw (decimal-one c.args.n c.if-n-lt10.true, ← c.last_digit-last.ensures) c.put.ensures
+
+pub put_decimal-end-requires : goal.put_decimal-end-requires
+put_decimal-end-requires t c =
+    let longer = decimal-longer c.args.n (search rules) in
+    (omega (arith, c.decreases), omega (arith, c.requires))
+
+pub put-requires-2 : goal.put-requires-2
+put-requires-2 t c =
+    let longer = decimal-longer c.args.n (search rules) in
+    let end = c.put_decimal-end.ensures.ends in
+    omega (arith, c.requires)
+
+pub returns : goal.returns
+returns t c =
+    rw (decimal-more c.args.n (search rules), ← c.last_digit-last.ensures)
+    (wrote-both c.put_decimal-end.ensures c.put-2.ensures)

@@ -1,0 +1,5 @@
+-- The measure is the number, which loses its last digit.
+use Rattle.decimals.proofs.+put_decimal.Given as goal
+
+abbrev pub decreases-put_decimal : goal.decreases-put_decimal
+decreases-put_decimal l = l.n
