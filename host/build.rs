@@ -1,5 +1,5 @@
 //! Finds the kernel's archive, libbeaker.a, and has it linked: the one that the variable
-//! BEAKER_ARCHIVE names, or else the one that `rt staticlib beaker` proves and writes in the
+//! BEAKER_ARCHIVE names, or else the one that `tools/archive` proves and writes in the
 //! repository's root.
 
 use std::path::{Path, PathBuf};
@@ -35,37 +35,39 @@ fn named_archive(archive: PathBuf) -> PathBuf {
     archive
 }
 
-/// The archive that `rt` writes. `rt check` proves what it is made of, several crates at a time
-/// (`rt staticlib` alone would take them one by one), and that the exports meet the demands: the
-/// crate `tied`.
+/// The archive that `tools/archive` writes, which first has `rt` prove what it is made of and that
+/// the exports meet the demands: the crate `tied`.
 fn proved_archive(package: &Path) -> PathBuf {
     let root = package.join("..");
-    println!("cargo:rerun-if-changed={}", root.join("crates").display());
+    for crates in sources(&root.join("crates")) {
+        println!("cargo:rerun-if-changed={}", crates.display());
+    }
     println!(
         "cargo:rerun-if-changed={}",
         root.join("crates.txt").display()
     );
-    run_rt(&root, "check", "tied");
-    run_rt(&root, "staticlib", "beaker");
+    match Command::new(root.join("tools/archive")).status() {
+        Ok(status) if status.success() => {}
+        Ok(status) => fail(&format!(
+            "`tools/archive` did not prove the kernel ({status}); what it said stands above. It \
+             wants `rt` of the Rattle kit on the path; or let BEAKER_ARCHIVE name a libbeaker.a \
+             that it wrote"
+        )),
+        Err(e) => fail(&format!("`tools/archive` cannot be run ({e})")),
+    }
     root.join("target/staticlib/libbeaker.a")
 }
 
-/// Runs a command of `rt` on a crate.
-fn run_rt(root: &Path, command: &str, of: &str) {
-    match Command::new("rt")
-        .args([command, of])
-        .current_dir(root)
-        .status()
-    {
-        Ok(status) if status.success() => {}
-        Ok(status) => fail(&format!(
-            "`rt {command} {of}` did not prove the kernel ({status}); what it said stands above"
-        )),
-        Err(e) => fail(&format!(
-            "`rt` of the Rattle kit cannot be run ({e}). Put it on the path, or let \
-             BEAKER_ARCHIVE name a libbeaker.a that it wrote"
-        )),
-    }
+/// The folders that crates are made of; what `rt` writes stands beside them.
+fn sources(crates: &Path) -> Vec<PathBuf> {
+    let Ok(entries) = fs::read_dir(crates) else {
+        fail(&format!("{} cannot be read", crates.display()));
+    };
+    entries
+        .flatten()
+        .flat_map(|of| ["src", "specs", "proofs"].map(|part| of.path().join(part)))
+        .filter(|folder| folder.is_dir())
+        .collect()
 }
 
 /// A variable that cargo sets.

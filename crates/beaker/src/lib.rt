@@ -1,13 +1,12 @@
 #![tactic(auto)]
 // The library that a host links: set-up, Turn, Look and the system calls, thin over `kernel`. A host lends byte slices and gets the
-// struct of `replies` back. No function asks anything of what it is lent.
+// struct of `replies` back. No function asks anything of what it is lent. `beaker_c` gives them their C names.
 ghost use Rattle.replies.specs.Exports.{SetUpExports, TurnExports, LookExports, SystemCallExports};
 
 pub use replies::Reply;
 
 // Set-up.
-#[unsafe(no_mangle)]
-pub extern "C" fn beaker_set_up(
+pub fn beaker_set_up(
     table: &mut [u8],
     key: &[u8],
     address: &[u8],
@@ -19,24 +18,21 @@ pub extern "C" fn beaker_set_up(
 }
 
 // Turn: the host names the running procedure.
-#[unsafe(no_mangle)]
-pub extern "C" fn beaker_turn(table: &mut [u8], key: &[u8]) -> Reply
+pub fn beaker_turn(table: &mut [u8], key: &[u8]) -> Reply
     ensures { TurnExports table.old key.now result table.new }
 {
     replies::laid_out(kernel::turn(table, key), 0)
 }
 
 // Look: one slot's value.
-#[unsafe(no_mangle)]
-pub extern "C" fn beaker_look(table: &[u8], slot: &[u8]) -> Reply
+pub fn beaker_look(table: &[u8], slot: &[u8]) -> Reply
     ensures { LookExports table.now slot.now result table.now }
 {
     replies::laid_out(kernel::look(table, slot), 0)
 }
 
 // A system call. Its payload is a part of the message.
-#[unsafe(no_mangle)]
-pub extern "C" fn beaker_system_call(
+pub fn beaker_system_call(
     table: &mut [u8],
     message: &[u8],
     code: &[u8],

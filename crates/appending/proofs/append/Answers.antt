@@ -5,7 +5,7 @@ use Rattle.appending.proofs.append.Goals as goal
 pub put_place-listed-requires : goal.put_place-listed-requires
 put_place-listed-requires c =
     let need = c.requires in
-    (place-takes need, need.key)
+    record { takes = place-takes need; procedure_len = need.key }
 
 pub insert_procedure-requires : goal.insert_procedure-requires
 insert_procedure-requires c =

@@ -5,7 +5,7 @@ use Rattle.founding.proofs.found.Goals as goal
 pub put_fixed-used-requires : goal.put_fixed-used-requires
 put_fixed-used-requires c =
     let lent = c.requires in
-    (cleared lent c.clear.ensures, (lent.key_size, lent.kernel_size))
+    record { empty = cleared lent c.clear.ensures; key_len = (lent.key_size, lent.kernel_size) }
 
 pub append-requires : goal.append-requires
 append-requires c =

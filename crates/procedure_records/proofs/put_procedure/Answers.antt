@@ -5,7 +5,7 @@ use Rattle.procedure_records.proofs.put_procedure.Goals as goal
 pub put_own-named-requires : goal.put_own-named-requires
 put_own-named-requires c =
     let need = c.requires in
-    (own-takes need, (need.key, need.word))
+    record { takes = own-takes need; procedure_len = (need.key, need.word) }
 
 pub put_kinds-requires : goal.put_kinds-requires
 put_kinds-requires c =

@@ -6,7 +6,7 @@ use Rattle.unlisting.proofs.move_last.Goals as goal
 
 pub value_at-last-requires : goal.value_at-last-requires
 value_at-last-requires c =
-    (sound-occupied c.requires.table.sound c.requires.table.count, search rules)
+    record { occupied = sound-occupied c.requires.table.sound c.requires.table.count; slot_len = search rules }
 
 pub put-moved-requires : goal.put-moved-requires
 put-moved-requires c =
