@@ -1,5 +1,5 @@
 /* The proved Beaker kernel, for a C host: link libbeaker.a (x86-64 Linux), which
- * `rt check tied && rt staticlib beaker` proves and writes to target/staticlib/.
+ * tools/archive proves and writes to target/staticlib/.
  *
  * Each function is lent byte arrays as a pointer and a length, answers for every content and every
  * length, and keeps nothing: all state is in the table. What it assumes of its caller:

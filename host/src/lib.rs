@@ -46,9 +46,10 @@
 //! # What to have
 //!
 //! `rt` of the Rattle kit proves the whole kernel, from the leaves to the exported functions, and
-//! builds its archive. The first time takes some minutes, in which cargo shows nothing. With
-//! `BEAKER_ARCHIVE` set to the full path of a `libbeaker.a`, that one is linked instead, whatever it
-//! is; docs/PROMISES.md says how to check one, and what a host owes the kernel.
+//! builds its archive; cargo has `tools/archive` of the repository do so. The first time takes a
+//! while, in which cargo shows nothing. With `BEAKER_ARCHIVE` set to the full path of a
+//! `libbeaker.a`, that one is linked instead, whatever it is; docs/PROMISES.md says how to check
+//! one, and what a host owes the kernel.
 //!
 //! The archive is code for x86-64 Linux. On an Arm machine `../khiaosuwit/host/cross cargo run`
 //! stands for `cargo run`, in any package: it builds x86-64 code too, and runs it by an emulator.

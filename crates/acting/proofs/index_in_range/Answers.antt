@@ -9,6 +9,6 @@ pub count_of-count-requires : goal.count_of-count-requires
 count_of-count-requires c = search (rules, holder-readable) depth 6
 
 pub returns : goal.returns
-returns c =
+returns c k q =
     index-judged c.requires.sound_with c.args.d.now k c.index.ensures c.small.ensures
     (search (rules, holder-count) depth 6)

@@ -8,5 +8,5 @@ use Rattle.beaker.proofs.beaker_set_up.Goals as goal
 pub returns : goal.returns
 returns c =
     exports-none
-    {o = set_up c.args.table.now c.args.key.now c.args.address.now c.args.kernel-address.now}
+    {o = set_up c.args.table.now c.args.key.now c.args.address.now c.args.kernel_address.now}
     c.set_up.ensures (set-up-payload _ _ _ _ []) c.laid_out.ensures

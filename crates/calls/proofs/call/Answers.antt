@@ -2,7 +2,6 @@
 -- `returns`: 33; returns-2: 66 33; returns-3: the address.
 use mathlib.Core.Path.{refl}
 use Rattle.rules.specs.Capabilities.{call, number}
-use Rattle.results.proofs.Rows.{negated}
 use Rattle.rules.specs.Answers.{code_number}
 use Rattle.acting.proofs.Holder.{occupied}
 use Rattle.acting.proofs.Permission.{acts-on-key}
@@ -20,13 +19,13 @@ pub returns-then-not-permits : goal.returns-then-not-permits
 unfolding code_number number
 returns-then-not-permits c =
     call-not-covered c.args.t.now c.args.d.now c.key_word.ensures c.permits.ensures
-    (negated c.if-not-permits.true) c.refused.ensures
+    c.if-not-permits.true c.refused.ensures
 
 pub returns-then-not-is_listed : goal.returns-then-not-is_listed
 unfolding code_number number
 returns-then-not-is_listed c =
     call-not-listed c.args.t.now c.args.d.now c.key_word.ensures c.permits.ensures
-    (negated c.if-not-permits.false) c.key_of-callee.ensures c.is_listed.ensures (negated c.if-not-is_listed.true) c.refused-then-not-is_listed.ensures
+    c.if-not-permits.false c.key_of-callee.ensures c.is_listed.ensures c.if-not-is_listed.true c.refused-then-not-is_listed.ensures
 
 pub value_at-requires : goal.value_at-requires
 value_at-requires c = search (rules, occupied) depth 6
@@ -34,12 +33,12 @@ value_at-requires c = search (rules, occupied) depth 6
 pub address_part-requires : goal.address_part-requires
 address_part-requires c = (
   c.value_at.ensures.size,
-  address-fits c.requires.sound_with c.key_of-callee.result.now c.address_slot-slot.ensures c.value_at.ensures c.is_listed.ensures (negated c.if-not-is_listed.false),
+  address-fits c.requires.sound_with c.key_of-callee.result.now c.address_slot-slot.ensures c.value_at.ensures c.is_listed.ensures c.if-not-is_listed.false,
 )
 
 pub returns : goal.returns
 unfolding number
 returns c =
     call-done c.args.t.now c.args.d.now c.key_word.ensures c.permits.ensures
-    (negated c.if-not-permits.false) c.key_of-callee.ensures c.is_listed.ensures (negated c.if-not-is_listed.false)
+    c.if-not-permits.false c.key_of-callee.ensures c.is_listed.ensures c.if-not-is_listed.false
     c.value_at.result (address_word c.requires.sound_with c.key_of-callee.result.now c.address_slot-slot.ensures c.value_at.ensures) c.address_part.ensures c.called.ensures

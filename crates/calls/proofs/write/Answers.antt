@@ -1,7 +1,6 @@
 -- Each return is a place in the row; where no check fails, `needed` says that there is room.
 -- `returns` and returns-2: 33; returns-3: 66 e7; returns-4: done.
 use Rattle.rules.specs.Capabilities.{number}
-use Rattle.results.proofs.Rows.{negated}
 use Rattle.rules.specs.Answers.{code_number}
 use Rattle.acting.proofs.Holder.{occupied}
 use Rattle.acting.proofs.Permission.{acts-on-address}
@@ -21,13 +20,13 @@ pub returns-then-not-permits : goal.returns-then-not-permits
 unfolding code_number number
 returns-then-not-permits c =
     write-not-covered c.args.t.now c.args.d.now c.write_address-address.ensures c.write_value-value.ensures
-    c.permits.ensures (negated c.if-not-permits.true) c.refused.ensures
+    c.permits.ensures c.if-not-permits.true c.refused.ensures
 
 pub returns-then-in_kernel_storage : goal.returns-then-in_kernel_storage
 unfolding code_number number
 returns-then-in_kernel_storage c =
     write-into-kernel c.args.t.now c.args.d.now c.write_address-address.ensures c.write_value-value.ensures
-    c.permits.ensures (negated c.if-not-permits.false) c.in_kernel_storage.ensures c.if-in_kernel_storage.true c.refused-then-in_kernel_storage.ensures
+    c.permits.ensures c.if-not-permits.false c.in_kernel_storage.ensures c.if-in_kernel_storage.true c.refused-then-in_kernel_storage.ensures
 
 pub needed-requires : goal.needed-requires
 needed-requires c =
@@ -38,20 +37,21 @@ pub returns-then-t-needed : goal.returns-then-t-needed
 unfolding code_number number
 returns-then-t-needed c =
     write-no-room c.args.t.now c.args.d.now c.write_address-address.ensures c.write_value-value.ensures
-    c.permits.ensures (negated c.if-not-permits.false) c.in_kernel_storage.ensures c.if-in_kernel_storage.false
+    c.permits.ensures c.if-not-permits.false c.in_kernel_storage.ensures c.if-in_kernel_storage.false
     c.needed.ensures (search rules) c.refused-then-t-needed.ensures
 
 pub put-requires : goal.put-requires
 put-requires c =
-    put-ready (as_lent c.requires.sound_with) c.write_address-address.ensures c.write_value-value.ensures
+    let r = put-ready (as_lent c.requires.sound_with) c.write_address-address.ensures c.write_value-value.ensures
     (write-fits c.args.t.now c.args.d.now c.write_address-address.ensures c.write_value-value.ensures
-    c.needed.ensures (search rules))
+    c.needed.ensures (search rules)) in
+    record { t_value = r.0; used_value = r.1.0; key_len = r.1.1.0; value_len_bound = r.1.1.1 }
 
 pub returns : goal.returns
 unfolding number
 returns c =
     write_done c.args.t.now c.args.d.now c.write_address-address.ensures c.write_value-value.ensures
-    c.permits.ensures (negated c.if-not-permits.false) c.in_kernel_storage.ensures c.if-in_kernel_storage.false
+    c.permits.ensures c.if-not-permits.false c.in_kernel_storage.ensures c.if-in_kernel_storage.false
     c.needed.ensures (search rules)
     (put-after (as_lent c.requires.sound_with) c.write_address-address.ensures c.write_value-value.ensures c.put.ensures).table
     c.done.ensures

@@ -9,7 +9,8 @@ loop-k-init c = words-start c.requires c.words-count.ensures.count
 
 pub put-stored-requires : goal.put-stored-requires
 put-stored-requires c =
-    words-ready c.loop-k.invariant (omega arith) c.word_slot-slot.ensures c.word_at.ensures
+    let r = words-ready c.loop-k.invariant (omega arith) c.word_slot-slot.ensures c.word_at.ensures in
+    record { t_value = r.0; used_value = r.1.0; key_len = r.1.1.0; value_len_bound = r.1.1.1 }
 
 pub loop-k-preserved : goal.loop-k-preserved
 loop-k-preserved c =

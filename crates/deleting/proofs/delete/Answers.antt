@@ -2,7 +2,6 @@
 -- `returns`: 33; returns-2: 66 e2; returns-3: 66 33; returns-4: 66 e3; returns-5: done.
 use mathlib.Core.Path.{refl, sym, ◌∙◌}
 use Rattle.rules.specs.Capabilities.{delete, number}
-use Rattle.results.proofs.Rows.{negated}
 use Rattle.rules.specs.Answers.{code_number}
 use Rattle.acting.proofs.Permission.{acts-on-key}
 use Rattle.deleting.proofs.DeleteRow.{delete-not-covered, delete-entry, delete-not-listed, delete-current, delete-done}
@@ -17,27 +16,27 @@ pub returns-then-not-permits : goal.returns-then-not-permits
 unfolding code_number number
 returns-then-not-permits c =
     delete-not-covered c.args.t.now c.args.d.now c.key_word.ensures c.permits.ensures
-    (negated c.if-not-permits.true) c.refused.ensures
+    c.if-not-permits.true c.refused.ensures
 
 pub returns-then-names_entry : goal.returns-then-names_entry
 unfolding code_number number
 returns-then-names_entry c =
     delete-entry c.args.t.now c.args.d.now c.key_word.ensures c.permits.ensures
-    (negated c.if-not-permits.false) c.names_entry.ensures c.if-names_entry.true c.refused-then-names_entry.ensures
+    c.if-not-permits.false c.names_entry.ensures c.if-names_entry.true c.refused-then-names_entry.ensures
 
 pub returns-then-not-is_listed : goal.returns-then-not-is_listed
 unfolding code_number number
 returns-then-not-is_listed c =
     delete-not-listed c.args.t.now c.args.d.now c.key_word.ensures c.permits.ensures
-    (negated c.if-not-permits.false) c.names_entry.ensures c.if-names_entry.false
-    c.key_of-procedure.ensures c.is_listed.ensures (negated c.if-not-is_listed.true) c.refused-then-not-is_listed.ensures
+    c.if-not-permits.false c.names_entry.ensures c.if-names_entry.false
+    c.key_of-procedure.ensures c.is_listed.ensures c.if-not-is_listed.true c.refused-then-not-is_listed.ensures
 
 pub returns-then-names_current : goal.returns-then-names_current
 unfolding code_number number
 returns-then-names_current c =
     delete-current c.args.t.now c.args.d.now c.key_word.ensures c.permits.ensures
-    (negated c.if-not-permits.false) c.names_entry.ensures c.if-names_entry.false
-    c.key_of-procedure.ensures c.is_listed.ensures (negated c.if-not-is_listed.false)
+    c.if-not-permits.false c.names_entry.ensures c.if-names_entry.false
+    c.key_of-procedure.ensures c.is_listed.ensures c.if-not-is_listed.false
     c.names_current.ensures c.if-names_current.true c.refused-then-names_current.ensures
 
 pub unlist-requires : goal.unlist-requires
@@ -45,13 +44,13 @@ unlist-requires c =
     record {
       table = c.requires.sound_with;
       key = c.key_of-procedure.ensures.size;
-      is_listed = sym c.is_listed.ensures ∙ negated c.if-not-is_listed.false;
+      is_listed = sym c.is_listed.ensures ∙ c.if-not-is_listed.false;
     }
 
 pub returns : goal.returns
 unfolding number
 returns c =
     delete-done c.args.t.now c.args.d.now c.key_word.ensures c.permits.ensures
-    (negated c.if-not-permits.false) c.names_entry.ensures c.if-names_entry.false
-    c.key_of-procedure.ensures c.is_listed.ensures (negated c.if-not-is_listed.false)
+    c.if-not-permits.false c.names_entry.ensures c.if-names_entry.false
+    c.key_of-procedure.ensures c.is_listed.ensures c.if-not-is_listed.false
     c.names_current.ensures c.if-names_current.false c.unlist.ensures c.done.ensures

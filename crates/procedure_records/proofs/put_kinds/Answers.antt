@@ -9,7 +9,8 @@ loop-number-init c = kinds-start c.requires c.requested-counts.ensures
 
 pub put-stored-requires : goal.put-stored-requires
 put-stored-requires c =
-    kinds-ready c.loop-number.invariant (omega arith) c.count_slot-slot.ensures c.number_word.ensures
+    let r = kinds-ready c.loop-number.invariant (omega arith) c.count_slot-slot.ensures c.number_word.ensures in
+    record { t_value = r.0; used_value = r.1.0; key_len = r.1.1.0; value_len_bound = r.1.1.1 }
 
 pub put_kind-stored-requires : goal.put_kind-stored-requires
 put_kind-stored-requires c =

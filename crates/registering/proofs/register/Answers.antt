@@ -1,7 +1,6 @@
 -- Each return is a place in the row.
 -- `returns` and returns-2: 66 e4; returns-3: 33; returns-4: 66 e9; returns-5: 66 e5; returns-6: the rest of the row.
 use Rattle.rules.specs.Capabilities.{number}
-use Rattle.results.proofs.Rows.{negated}
 use Rattle.rules.specs.Answers.{code_number}
 use Rattle.registering.proofs.RegisterRow.{acts-on-procedure, register-zero-key, register-zero-address, register-not-covered, register-code-fails, register-malformed, judgeable, register-requests}
 use Rattle.registering.proofs.register.Goals as goal
@@ -28,22 +27,22 @@ unfolding code_number number
 returns-then-not-permits c =
     register-not-covered c.args.t.now c.args.d.now c.args.code.now c.args.mask.now c.key_word-key.ensures
     c.is_zero.ensures c.if-is_zero.false c.address_word.ensures c.is_zero-2.ensures c.if-is_zero-2.false
-    c.permits.ensures (negated c.if-not-permits.true) c.refused-then-not-permits.ensures
+    c.permits.ensures c.if-not-permits.true c.refused-then-not-permits.ensures
 
 pub returns-then-not-passes : goal.returns-then-not-passes
 unfolding code_number number
 returns-then-not-passes c =
     register-code-fails c.args.t.now c.args.d.now c.args.code.now c.args.mask.now c.key_word-key.ensures
     c.is_zero.ensures c.if-is_zero.false c.address_word.ensures c.is_zero-2.ensures c.if-is_zero-2.false
-    c.permits.ensures (negated c.if-not-permits.false) c.passes.ensures (negated c.if-not-passes.true) c.refused-then-not-passes.ensures
+    c.permits.ensures c.if-not-permits.false c.passes.ensures c.if-not-passes.true c.refused-then-not-passes.ensures
 
 pub returns-then-not-well_formed : goal.returns-then-not-well_formed
 unfolding code_number number
 returns-then-not-well_formed c =
     register-malformed c.args.t.now c.args.d.now c.args.code.now c.args.mask.now c.key_word-key.ensures
     c.is_zero.ensures c.if-is_zero.false c.address_word.ensures c.is_zero-2.ensures c.if-is_zero-2.false
-    c.permits.ensures (negated c.if-not-permits.false) c.passes.ensures (negated c.if-not-passes.false)
-    c.well_formed-2.ensures (negated c.if-not-well_formed.true) c.refused-then-not-well_formed.ensures
+    c.permits.ensures c.if-not-permits.false c.passes.ensures c.if-not-passes.false
+    c.well_formed-2.ensures c.if-not-well_formed.true c.refused-then-not-well_formed.ensures
 
 pub judge_series-requires : goal.judge_series-requires
 unfolding number
@@ -51,9 +50,9 @@ judge_series-requires c = record {
   sound_with = c.requires.sound_with;
   judgeable = judgeable c.args.t.now c.args.d.now c.args.code.now c.args.mask.now c.key_word-key.ensures
       c.is_zero.ensures c.if-is_zero.false c.address_word.ensures c.is_zero-2.ensures c.if-is_zero-2.false
-      c.permits.ensures (negated c.if-not-permits.false) c.passes.ensures (negated c.if-not-passes.false)
+      c.permits.ensures c.if-not-permits.false c.passes.ensures c.if-not-passes.false
       c.well_formed-2.ensures
-      c.requires.names_procedure (negated c.if-not-well_formed.false);
+      c.requires.names_procedure c.if-not-well_formed.false;
 }
 
 pub returns : goal.returns
@@ -61,5 +60,5 @@ unfolding number
 returns c =
     register-requests c.args.t.now c.args.d.now c.args.code.now c.args.mask.now c.key_word-key.ensures
     c.is_zero.ensures c.if-is_zero.false c.address_word.ensures c.is_zero-2.ensures c.if-is_zero-2.false
-    c.permits.ensures (negated c.if-not-permits.false) c.passes.ensures (negated c.if-not-passes.false)
-    c.well_formed-2.ensures (negated c.if-not-well_formed.false) c.judge_series.ensures
+    c.permits.ensures c.if-not-permits.false c.passes.ensures c.if-not-passes.false
+    c.well_formed-2.ensures c.if-not-well_formed.false c.judge_series.ensures

@@ -11,7 +11,7 @@ unfolding code_number
 returns-then-is_zero c =
     let kb = all-bytes c.args.key.now (λ i. (c.shared_slice_known-1.given i).fits) in
     let ab = all-bytes c.args.address.now (λ i. (c.shared_slice_known-2-1.given i).fits) in
-    let kab = all-bytes c.args.kernel-address.now (λ i. (c.shared_slice_known-3-1.given i).fits) in
+    let kab = all-bytes c.args.kernel_address.now (λ i. (c.shared_slice_known-3-1.given i).fits) in
     key-zero c.requires kb ab kab c.is_zero.ensures c.if-is_zero.true c.refused.ensures
 
 pub returns-then-is_zero-2 : goal.returns-then-is_zero-2
@@ -19,7 +19,7 @@ unfolding code_number
 returns-then-is_zero-2 c =
     let kb = all-bytes c.args.key.now (λ i. (c.shared_slice_known-1.given i).fits) in
     let ab = all-bytes c.args.address.now (λ i. (c.shared_slice_known-2-1.given i).fits) in
-    let kab = all-bytes c.args.kernel-address.now (λ i. (c.shared_slice_known-3-1.given i).fits) in
+    let kab = all-bytes c.args.kernel_address.now (λ i. (c.shared_slice_known-3-1.given i).fits) in
     address-zero c.requires kb ab kab c.is_zero.ensures c.if-is_zero.false c.is_zero-2.ensures c.if-is_zero-2.true
     c.refused-then-is_zero-2.ensures
 
@@ -28,7 +28,7 @@ unfolding code_number
 returns-then-is_zero-3 c =
     let kb = all-bytes c.args.key.now (λ i. (c.shared_slice_known-1.given i).fits) in
     let ab = all-bytes c.args.address.now (λ i. (c.shared_slice_known-2-1.given i).fits) in
-    let kab = all-bytes c.args.kernel-address.now (λ i. (c.shared_slice_known-3-1.given i).fits) in
+    let kab = all-bytes c.args.kernel_address.now (λ i. (c.shared_slice_known-3-1.given i).fits) in
     kernel-zero c.requires kb ab kab c.is_zero.ensures c.if-is_zero.false c.is_zero-2.ensures c.if-is_zero-2.false
     c.is_zero-3.ensures c.if-is_zero-3.true c.refused-then-is_zero-3.ensures
 
@@ -37,7 +37,7 @@ unfolding code_number
 returns-then-t-lt-FIRST_ROOM c =
     let kb = all-bytes c.args.key.now (λ i. (c.shared_slice_known-1.given i).fits) in
     let ab = all-bytes c.args.address.now (λ i. (c.shared_slice_known-2-1.given i).fits) in
-    let kab = all-bytes c.args.kernel-address.now (λ i. (c.shared_slice_known-3-1.given i).fits) in
+    let kab = all-bytes c.args.kernel_address.now (λ i. (c.shared_slice_known-3-1.given i).fits) in
     set-up-no-room c.requires kb ab kab c.is_zero.ensures c.if-is_zero.false c.is_zero-2.ensures c.if-is_zero-2.false
     c.is_zero-3.ensures c.if-is_zero-3.false (search rules) c.refused-then-t-lt-FIRST_ROOM.ensures
 
@@ -45,7 +45,7 @@ pub found-requires : goal.found-requires
 found-requires c =
     let kb = all-bytes c.args.key.now (λ i. (c.shared_slice_known-1.given i).fits) in
     let ab = all-bytes c.args.address.now (λ i. (c.shared_slice_known-2-1.given i).fits) in
-    let kab = all-bytes c.args.kernel-address.now (λ i. (c.shared_slice_known-3-1.given i).fits) in
+    let kab = all-bytes c.args.kernel_address.now (λ i. (c.shared_slice_known-3-1.given i).fits) in
     set-up-lent c.requires kb ab kab c.is_zero.ensures c.if-is_zero.false c.is_zero-2.ensures c.if-is_zero-2.false
     c.is_zero-3.ensures c.if-is_zero-3.false (search rules)
 
@@ -53,6 +53,6 @@ pub returns : goal.returns
 returns c =
     let kb = all-bytes c.args.key.now (λ i. (c.shared_slice_known-1.given i).fits) in
     let ab = all-bytes c.args.address.now (λ i. (c.shared_slice_known-2-1.given i).fits) in
-    let kab = all-bytes c.args.kernel-address.now (λ i. (c.shared_slice_known-3-1.given i).fits) in
+    let kab = all-bytes c.args.kernel_address.now (λ i. (c.shared_slice_known-3-1.given i).fits) in
     set-up-done c.requires kb ab kab c.is_zero.ensures c.if-is_zero.false c.is_zero-2.ensures c.if-is_zero-2.false
     c.is_zero-3.ensures c.if-is_zero-3.false (search rules) c.found.ensures c.done.ensures

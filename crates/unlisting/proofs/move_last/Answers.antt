@@ -10,12 +10,14 @@ value_at-last-requires c =
 
 pub put-moved-requires : goal.put-moved-requires
 put-moved-requires c =
-    key-ready c.requires c.place_slot-last_slot.ensures c.value_at-last.ensures c.place_slot-freed_slot.ensures
+    let r = key-ready c.requires c.place_slot-last_slot.ensures c.value_at-last.ensures c.place_slot-freed_slot.ensures in
+    record { t_value = r.0; used_value = r.1.0; key_len = r.1.1.0; value_len_bound = r.1.1.1 }
 
 pub put-requires : goal.put-requires
 put-requires c =
-    index-ready c.requires c.place_slot-last_slot.ensures c.value_at-last.ensures c.place_slot-freed_slot.ensures
-    c.put-moved.ensures c.key_part.ensures c.index_slot-index_slot.ensures c.number_word-index.ensures
+    let r = index-ready c.requires c.place_slot-last_slot.ensures c.value_at-last.ensures c.place_slot-freed_slot.ensures
+    c.put-moved.ensures c.key_part.ensures c.index_slot-index_slot.ensures c.number_word-index.ensures in
+    record { t_value = r.0; used_value = r.1.0; key_len = r.1.1.0; value_len_bound = r.1.1.1 }
 
 pub returns : goal.returns
 returns c =

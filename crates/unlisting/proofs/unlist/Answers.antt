@@ -14,20 +14,23 @@ overflow_sub-places c =
 
 pub put-lowered-requires : goal.put-lowered-requires
 put-lowered-requires c =
-    length-ready c.requires c.list_length-places.ensures c.place_of-freed.ensures c.move_last-moved.ensures
-    c.length_slot-length_slot.ensures c.number_word-shorter.ensures
+    let r = length-ready c.requires c.list_length-places.ensures c.place_of-freed.ensures c.move_last-moved.ensures
+    c.length_slot-length_slot.ensures c.number_word-shorter.ensures in
+    record { t_value = r.0; used_value = r.1.0; key_len = r.1.1.0; value_len_bound = r.1.1.1 }
 
 pub put-cleared-requires : goal.put-cleared-requires
 put-cleared-requires c =
-    last-ready c.requires c.list_length-places.ensures c.place_of-freed.ensures c.move_last-moved.ensures
+    let r = last-ready c.requires c.list_length-places.ensures c.place_of-freed.ensures c.move_last-moved.ensures
     c.length_slot-length_slot.ensures c.number_word-shorter.ensures c.put-lowered.ensures
-    c.place_slot-last_place.ensures
+    c.place_slot-last_place.ensures in
+    record { t_value = r.0; used_value = r.1.0; key_len = r.1.1.0; value_len_bound = r.1.1.1 }
 
 pub remove_procedure-requires : goal.remove_procedure-requires
 remove_procedure-requires c =
-    remove-ready c.requires c.list_length-places.ensures c.place_of-freed.ensures c.move_last-moved.ensures
+    let r = remove-ready c.requires c.list_length-places.ensures c.place_of-freed.ensures c.move_last-moved.ensures
     c.length_slot-length_slot.ensures c.number_word-shorter.ensures c.put-lowered.ensures
-    c.place_slot-last_place.ensures c.put-cleared.ensures
+    c.place_slot-last_place.ensures c.put-cleared.ensures in
+    record { t_value = r.0; used_value = r.1.0; procedure_len = r.1.1 }
 
 pub returns : goal.returns
 returns c =
