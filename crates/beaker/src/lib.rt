@@ -6,12 +6,7 @@ ghost use Rattle.replies.specs.Exports.{SetUpExports, TurnExports, LookExports, 
 pub use replies::Reply;
 
 // Set-up.
-pub fn beaker_set_up(
-    table: &mut [u8],
-    key: &[u8],
-    address: &[u8],
-    kernel_address: &[u8],
-) -> Reply
+pub fn beaker_set_up(table: &mut [u8], key: &[u8], address: &[u8], kernel_address: &[u8]) -> Reply
     ensures { SetUpExports table.old key.now address.now kernel_address.now result table.new }
 {
     replies::laid_out(kernel::set_up(table, key, address, kernel_address), 0)
@@ -32,12 +27,7 @@ pub fn beaker_look(table: &[u8], slot: &[u8]) -> Reply
 }
 
 // A system call. Its payload is a part of the message.
-pub fn beaker_system_call(
-    table: &mut [u8],
-    message: &[u8],
-    code: &[u8],
-    mask: &[u8],
-) -> Reply
+pub fn beaker_system_call(table: &mut [u8], message: &[u8], code: &[u8], mask: &[u8]) -> Reply
     ensures { SystemCallExports table.old message.now code.now mask.now result table.new }
 {
     let reply = kernel::system_call(table, message, code, mask);

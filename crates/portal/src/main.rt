@@ -22,7 +22,13 @@ struct State {
 }
 
 // The bytes that are left move to the front, and the input is read behind them.
-fn read_more<R: Read>(from: &mut R, input: &mut [u8], start: usize, end: usize, long: bool) -> io::Result<State>
+fn read_more<R: Read>(
+    from: &mut R,
+    input: &mut [u8],
+    start: usize,
+    end: usize,
+    long: bool,
+) -> io::Result<State>
     requires { (start ≤ end) × (end ≤ length input.old) }
     ensures { IfOk result (λ s. Within s input.new) }
 {
@@ -39,7 +45,14 @@ fn read_more<R: Read>(from: &mut R, input: &mut [u8], start: usize, end: usize, 
 
 // Answers what is there, writes the answers, and reads more once no whole line is left: nobody waits for an answer while the program
 // waits for input.
-fn turn<R: Read, W: Write>(from: &mut R, to: &mut W, t: &mut [u8], input: &mut [u8], out: &mut [u8], state: State) -> io::Result<State>
+fn turn<R: Read, W: Write>(
+    from: &mut R,
+    to: &mut W,
+    t: &mut [u8],
+    input: &mut [u8],
+    out: &mut [u8],
+    state: State,
+) -> io::Result<State>
     requires { Within state input.old }
     ensures { IfOk result (λ s. Within s input.new) }
 {
@@ -61,7 +74,13 @@ fn turn<R: Read, W: Write>(from: &mut R, to: &mut W, t: &mut [u8], input: &mut [
 }
 
 // A proved loop has to end, and nothing says that the input does: it counts its turns, up to a number that no run uses up.
-fn run<R: Read, W: Write>(from: &mut R, to: &mut W, t: &mut [u8], input: &mut [u8], out: &mut [u8]) -> io::Result<()>
+fn run<R: Read, W: Write>(
+    from: &mut R,
+    to: &mut W,
+    t: &mut [u8],
+    input: &mut [u8],
+    out: &mut [u8],
+) -> io::Result<()>
     requires { answer_room ≤ length out.old }
 {
     let mut state = State {

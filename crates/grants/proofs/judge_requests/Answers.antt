@@ -19,7 +19,7 @@ pub request_at-request-requires : goal.request_at-request-requires
 request_at-request-requires c = (omega arith, c.loop-at.invariant.rest)
 
 pub search_held-found-requires : goal.search_held-found-requires
-search_held-found-requires c =  record { readable = holder-readable c.requires.sound_with c.current-holder.ensures c.key_part-registrar.ensures; search_needs = search-needs c.requires.sound_with c.loop-at.invariant c.request_at-request.ensures; reached = c.loop-at.invariant.reached }
+search_held-found-requires c = record { readable = holder-readable c.requires.sound_with c.current-holder.ensures c.key_part-registrar.ensures; search_needs = search-needs c.requires.sound_with c.loop-at.invariant c.request_at-request.ensures; reached = c.loop-at.invariant.reached }
 
 pub overflow_add-tests : goal.overflow_add-tests
 overflow_add-tests c =

@@ -10,7 +10,7 @@ loop-i-init c =
     seek-start c.requires.search_needs c.ready-reading.ensures c.requires.reached
 
 pub read_next-reading-requires : goal.read_next-reading-requires
-read_next-reading-requires c =  record { readable = c.requires.readable; reached = c.loop-i.invariant.reached; i_le_read = (c.loop-i.invariant.there, omega (arith, c.loop-i.invariant.small)) }
+read_next-reading-requires c = record { readable = c.requires.readable; reached = c.loop-i.invariant.reached; i_le_read = (c.loop-i.invariant.there, omega (arith, c.loop-i.invariant.small)) }
 
 pub within-requires : goal.within-requires
 within-requires c =
