@@ -58,7 +58,8 @@ fn keep(n: usize, at: usize, long: bool, used: usize) -> Fed
 // Where the first line feed stands from `at` on; the piece's length if there is none.
 fn line_end(piece: &[u8], at: usize) -> usize
     requires { at ≤ length piece.now }
-    ensures { result ≡ at + index_of line_feed (drop at piece.now) }
+    ensures place { result ≡ at + index_of line_feed (drop at piece.now) }
+    ensures within { result ≤ length piece.now }
 {
     let mut i = at;
     while i < piece.len() {

@@ -9,11 +9,11 @@ loop-out-init c = feeding-none _ _ _ _
 
 pub returns-then-end-n : goal.returns-then-end-n
 returns-then-end-n c =
-    feeding-kept c.loop-out.invariant _ (search rules) c.line_end-end.ensures c.if-end-n.true _ c.keep.ensures
+    feeding-kept c.loop-out.invariant _ (search rules) c.line_end-end.ensures.place c.if-end-n.true _ c.keep.ensures
 
 pub loop-out-preserved : goal.loop-out-preserved
 loop-out-preserved c =
-    feeding-more c.loop-out.invariant _ (search rules) c.line_end-end.ensures (search rules) (search rules) (search rules)
+    feeding-more c.loop-out.invariant _ (search rules) c.line_end-end.ensures.place (search rules) (search rules) (search rules)
     c.answer_rest-used.ensures
 
 pub returns : goal.returns
