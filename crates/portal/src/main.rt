@@ -1,7 +1,7 @@
 #![tactic(auto)]
 // The program of document 01: it sets up a table, reads messages as lines of hex, and prints a line for each answer.
 // What is printed for a piece of the input is promised and proved in `feeding`. Here the pieces are read and the answers written.
-ghost use Rattle.std.specs.Prelude.{◌≤◌, length, IfOk};
+ghost use Rattle.std.specs.Prelude.{◌≤◌, ◌≡◌, length, IfOk, OnErr};
 ghost use Rattle.answering.specs.Answering.{answer_room};
 ghost use Rattle.portal.specs.States.{Within};
 
@@ -30,7 +30,8 @@ fn read_more<R: Read>(
     long: bool,
 ) -> io::Result<State>
     requires { (start ≤ end) × (end ≤ length input.old) }
-    ensures { IfOk result (λ s. Within s input.new) }
+    ensures ok { IfOk result (λ s. Within s input.new) }
+    ensures err { OnErr result (length input.new ≡ length input.old) }
 {
     moves::shift_left(&mut input[0..end], start);
     let kept = end - start;
@@ -54,7 +55,8 @@ fn turn<R: Read, W: Write>(
     state: State,
 ) -> io::Result<State>
     requires { Within state input.old }
-    ensures { IfOk result (λ s. Within s input.new) }
+    ensures ok { IfOk result (λ s. Within s input.new) }
+    ensures err { OnErr result (length input.new ≡ length input.old) }
 {
     let start = state.start;
     let end = state.end;

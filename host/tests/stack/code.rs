@@ -23,7 +23,7 @@ struct Function {
     /// What it has taken by `sub` since a page was last touched. A `push` touches what it takes.
     untouched: usize,
     calls: BTreeSet<String>,
-    /// The places in .rodata that it names.
+    /// The constants that it names.
     constants: BTreeSet<String>,
     jumps_by_pointer: bool,
 }
@@ -48,7 +48,8 @@ impl Code {
                 function = code.0.entry(name.to_string()).or_default();
             } else if let Some((_, relocation)) = line.split_once("R_X86_64_") {
                 let (_, target) = relocation.split_once('\t').expect("a target");
-                if target.starts_with(".rodata") {
+                // A constant lies in .rodata, or has a label of the compiler's own.
+                if target.starts_with(".rodata") || target.starts_with(".L") {
                     function.constants.insert(target.to_string());
                 } else {
                     let name = target.strip_suffix("-0x4").expect("a function's start");
@@ -96,9 +97,11 @@ impl Function {
     fn follow(&mut self, instruction: &str) {
         let (name, operands) = instruction.split_once(' ').unwrap_or((instruction, ""));
         let operands = operands.trim_start();
+        let touched = operands.ends_with(",(%rsp)");
         if self.untouched == PAGE {
-            let touched = operands.ends_with(",(%rsp)");
             assert!(touched, "a page is not touched before {instruction}");
+        }
+        if touched {
             self.untouched = 0;
         }
         match (name, operands.strip_suffix(",%rsp").map(constant)) {

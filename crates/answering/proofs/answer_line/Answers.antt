@@ -1,4 +1,4 @@
--- `returns`: the decoded message is the line's; returns-2: the line has none.
+-- The returns in order: the decoded message is the line's; the line has none.
 use Rattle.answering.proofs.Steps.{message-in, no-message}
 use Rattle.answering.specs.Answering.{answer_of}
 use native.Mathlib.Omega.{arith}

@@ -1,5 +1,5 @@
 -- Each return is a place in the row.
--- `returns`: 33; returns-2: 66 33; returns-3: the address.
+-- The returns in order: 33; 66 33; the address.
 use mathlib.Core.Path.{refl}
 use Rattle.rules.specs.Capabilities.{call, number}
 use Rattle.rules.specs.Answers.{code_number}

@@ -1,5 +1,5 @@
 -- Each return is a place in the row; the entry slot of a sound table holds a key, so there is room for another.
--- `returns`: 33; returns-2: 66 33; returns-3: done.
+-- The returns in order: 33; 66 33; done.
 use Rattle.rules.specs.Capabilities.{number}
 use Rattle.rules.specs.Messages.{key_word}
 use Rattle.rules.specs.Answers.{code_number}

@@ -1,5 +1,5 @@
 -- Each return is a place in the row; where no check fails, `needed` says that there is room.
--- `returns` and returns-2: 33; returns-3: 66 e7; returns-4: done.
+-- The returns in order: 33 (two); 66 e7; done.
 use Rattle.rules.specs.Capabilities.{number}
 use Rattle.rules.specs.Answers.{code_number}
 use Rattle.acting.proofs.Holder.{occupied}

@@ -1,5 +1,5 @@
 -- Each return is a place in the row.
--- `returns`: 33; returns-2: 66 e2; returns-3: 66 33; returns-4: 66 e3; returns-5: done.
+-- The returns in order: 33; 66 e2; 66 33; 66 e3; done.
 use mathlib.Core.Path.{refl, sym, ◌∙◌}
 use Rattle.rules.specs.Capabilities.{delete, number}
 use Rattle.rules.specs.Answers.{code_number}

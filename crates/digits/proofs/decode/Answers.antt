@@ -1,5 +1,5 @@
 -- Each return is a line that `Messages` tells apart.
--- `returns`: too long; returns-2: odd; returns-3: digits alone; returns-4: with another character.
+-- The returns in order: too long; odd; digits alone; with another character.
 use mathlib.Core.Path.{sym, ◌∙◌}
 use borrow.Author.Rules.{rules}
 use Rattle.digits.proofs.Messages.{too_long, odd, all_digits, some-other}

@@ -1,4 +1,4 @@
--- `returns`: the line is too long already; returns-2: it is whole.
+-- The returns in order: the line is too long already; it is whole.
 use Rattle.answering.specs.Answering.{answer_of}
 use Rattle.feeding.specs.Feeding.{message_left}
 use mathlib.Core.Path.{refl}

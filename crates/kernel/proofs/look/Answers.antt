@@ -1,5 +1,5 @@
 -- Each return is a place in the row.
--- `returns`: 66 ed; returns-2: 66 ef; returns-3: the value.
+-- The returns in order: 66 ed; 66 ef; the value.
 use Rattle.std.proofs.Common.{refl}
 use Rattle.rules.specs.Answers.{code_number}
 use Rattle.acting.proofs.Holder.{occupied}

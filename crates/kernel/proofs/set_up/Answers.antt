@@ -1,5 +1,5 @@
 -- Each return is a place in the row.
--- `returns` to returns-3: 66 ed; returns-4 and returns-5: 66 ef; returns-6: the rest of the row.
+-- The returns in order: 66 ed (three); 66 ef (two); the rest of the row.
 use Rattle.rules.specs.Answers.{code_number}
 use Rattle.kernel.proofs.SetUpRow.{key-wrong, address-wrong, kernel-wrong, not-whole, too_long, right-sizes, sizes-right}
 use borrow.Author.Rules.{rules}

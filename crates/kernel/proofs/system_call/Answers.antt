@@ -1,5 +1,5 @@
 -- Each return is a place in the row.
--- `returns`: 66 ed; returns-2: 66 e0; returns-3: 66 ea; returns-4: 66 ef; returns-5: the message's row.
+-- The returns in order: 66 ed; 66 e0; 66 ea; 66 ef; the message's row.
 use Rattle.std.proofs.Common.{refl}
 use Rattle.rules.specs.Answers.{code_number}
 use Rattle.kernel.proofs.FirstChecks.{not_sound, is-sound, sound-with}

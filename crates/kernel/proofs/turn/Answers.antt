@@ -1,5 +1,5 @@
 -- Each return is a place in the row.
--- `returns`: 66 ed; returns-2: 66 ef; returns-3: the rest of the row.
+-- The returns in order: 66 ed; 66 ef; the rest of the row.
 use Rattle.std.proofs.Common.{refl}
 use Rattle.rules.specs.Answers.{code_number}
 use Rattle.kernel.proofs.FirstChecks.{not_sound, is-sound, sound-with}

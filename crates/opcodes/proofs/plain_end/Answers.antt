@@ -1,5 +1,4 @@
 -- The loop's invariant is `Walked`: the opcodes from the first on are allowed and push nothing, so what is left from the index on decides.
--- `returns`: an opcode that pushes; returns-2: one that is not allowed; returns-3: the end.
 use Prim.Native.Nat.{◌-◌}
 use native.Mathlib.Omega.{arith}
 use mathlib.Core.Path.{sym, ◌∙◌}
@@ -8,12 +7,6 @@ use Rattle.opcodes.proofs.plain_end.Goals as goal
 
 pub loop-i-init : goal.loop-i-init
 loop-i-init c = walked_none (omega arith)
-
-pub returns-then-data_bytes-ne0 : goal.returns-then-data_bytes-ne0
-returns-then-data_bytes-ne0 c = let w = c.loop-i.invariant in (w.onward, w.left)
-
-pub returns-then-not-allowed : goal.returns-then-not-allowed
-returns-then-not-allowed c = let w = c.loop-i.invariant in (w.onward, w.left)
 
 pub overflow_add-i : goal.overflow_add-i
 overflow_add-i c = omega arith
@@ -24,7 +17,7 @@ loop-i-smaller c = omega arith
 pub loop-i-preserved : goal.loop-i-preserved
 loop-i-preserved c =
     walked-plain c.loop-i.invariant (omega arith) (sym c.if-not-allowed.false ∙ c.allowed.ensures)
-    (sym c.if-data_bytes-ne0.false ∙ c.data_bytes.ensures)
+    (omega (arith, c.data_bytes.ensures))
 
 pub returns : goal.returns
 returns c = let w = c.loop-i.invariant in (w.onward, w.left)

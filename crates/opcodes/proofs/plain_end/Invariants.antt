@@ -1,5 +1,4 @@
 -- The loop's invariant is `Walked`: the opcodes from the first on are allowed and push nothing, so what is left from the index on decides.
--- `returns`: an opcode that pushes; returns-2: one that is not allowed; returns-3: the end.
 use Prim.Native.Nat.{◌-◌}
 use lib.ListN.{length}
 use Rattle.opcodes.proofs.Walks.{Walked}

@@ -1,4 +1,4 @@
--- `returns`: no bytes; returns-2: the space and the digits follow each other.
+-- The returns in order: no bytes; the space and the digits follow each other.
 use Rattle.writing.proofs.Texts.{wrote_none}
 use Rattle.printing.proofs.Lines.{spaced-none, wrote-spaced}
 use borrow.Author.Rules.{rules}

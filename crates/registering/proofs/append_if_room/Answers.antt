@@ -1,5 +1,5 @@
 -- The sum that is compared is the length of the store afterwards.
--- `returns`: 66 e7; returns-2: done.
+-- The returns in order: 66 e7; done.
 use native.Mathlib.Omega.{arith}
 use Rattle.rules.specs.Answers.{code_number}
 use Rattle.laws.proofs.TableRecords.{formed}

@@ -1,5 +1,5 @@
 -- Each return is a place in the row.
--- `returns`: 66 77; returns-2: 33; returns-3: 66 e1; returns-4: 66 e8; returns-5: the rest of the row.
+-- The returns in order: 66 77; 33; 66 e1; 66 e8; the rest of the row.
 use native.Mathlib.Omega.{arith}
 use Rattle.results.proofs.Rows.{negated}
 use Rattle.rules.specs.Answers.{code_number}

@@ -1,5 +1,5 @@
 -- Each return is a place in the row.
--- `returns` and returns-2: 66 e4; returns-3: 33; returns-4: 66 e9; returns-5: 66 e5; returns-6: the rest of the row.
+-- The returns in order: 66 e4 (two); 33; 66 e9; 66 e5; the rest of the row.
 use Rattle.rules.specs.Capabilities.{number}
 use Rattle.rules.specs.Answers.{code_number}
 use Rattle.registering.proofs.RegisterRow.{acts-on-procedure, register-zero-key, register-zero-address, register-not-covered, register-code-fails, register-malformed, judgeable, register-requests}

@@ -1,5 +1,5 @@
 -- Each return is a place in the row.
--- `returns` to returns-3: 66 e4; returns-4: 66 e7; returns-5: done.
+-- The returns in order: 66 e4 (three); 66 e7; done.
 use Rattle.rules.specs.Answers.{code_number}
 use Rattle.laws.proofs.Numerals.{all-bytes}
 use Rattle.starting.proofs.StartRow.{key-zero, address-zero, kernel-zero, set-up-no-room, set-up-lent, set-up-done}

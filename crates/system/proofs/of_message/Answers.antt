@@ -1,5 +1,5 @@
 -- What the type names, then the row before the type's own.
--- `returns`: 66 e0; returns-2: 66 eb; returns-3: 66 e6; returns-4: aa; returns-5: 66 eb of Null; returns-6: Null; returns-7: the row of the type.
+-- The returns in order: 66 e0; 66 eb; 66 e6; aa; 66 eb of Null; Null; the row of the type.
 use mathlib.Core.Path.{refl, sym, ◌∙◌}
 use native.Mathlib.Omega.{arith}
 use borrow.Author.Tests.{ltb-false}

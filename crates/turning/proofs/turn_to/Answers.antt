@@ -1,5 +1,5 @@
 -- Each return is a place in the row; the current slot of a sound table holds a key, so there is room for another.
--- `returns`: 66 33; returns-2: done.
+-- The returns in order: 66 33; done.
 use Rattle.rules.specs.Answers.{code_number}
 use Rattle.storing.proofs.Chain.{put-ready, put-after}
 use Rattle.calls.proofs.OnePut.{as_lent, current-room}
