@@ -20,8 +20,11 @@ const PAGE: usize = 4_096;
 #[derive(Default)]
 struct Function {
     frame: usize,
-    /// What it has taken by `sub` since a page was last touched. A `push` touches what it takes.
+    /// What it has taken by `sub` since a page was last touched, which an instruction does that
+    /// follows a `sub`. A `push` touches what it takes.
     untouched: usize,
+    /// Whether the last instruction was a `sub`.
+    has_taken: bool,
     calls: BTreeSet<String>,
     /// The constants that it names.
     constants: BTreeSet<String>,
@@ -37,6 +40,7 @@ impl Code {
     pub fn of_archive() -> Code {
         let mut code = Code(BTreeMap::new());
         let mut function = &mut Function::default();
+        let mut jumps = false;
         for line in disassembly().lines() {
             if let Some((address, name)) = line.strip_suffix(">:").and_then(|l| l.split_once(" <"))
             {
@@ -50,6 +54,7 @@ impl Code {
                 let (_, target) = relocation.split_once('\t').expect("a target");
                 // A constant lies in .rodata, or has a label of the compiler's own.
                 if target.starts_with(".rodata") || target.starts_with(".L") {
+                    assert!(!jumps, "a constant is called: {target}");
                     function.constants.insert(target.to_string());
                 } else {
                     let name = target.strip_suffix("-0x4").expect("a function's start");
@@ -57,6 +62,7 @@ impl Code {
                     function.calls.insert(name.to_string());
                 }
             } else if let Some((_, instruction)) = line.split_once(":\t") {
+                jumps = instruction.starts_with("call") || instruction.starts_with('j');
                 function.follow(instruction.trim_end());
             }
         }
@@ -97,7 +103,8 @@ impl Function {
     fn follow(&mut self, instruction: &str) {
         let (name, operands) = instruction.split_once(' ').unwrap_or((instruction, ""));
         let operands = operands.trim_start();
-        let touched = operands.ends_with(",(%rsp)");
+        let touched = self.has_taken && operands.ends_with(",(%rsp)");
+        self.has_taken = false;
         if self.untouched == PAGE {
             assert!(touched, "a page is not touched before {instruction}");
         }
@@ -109,6 +116,7 @@ impl Function {
             ("sub", Some(Some(bytes))) => {
                 self.frame += bytes;
                 self.untouched += bytes;
+                self.has_taken = true;
                 let within = self.untouched <= PAGE;
                 assert!(within, "a guard page can be passed: {instruction}");
             }
