@@ -2,7 +2,7 @@
 -- Binary search halves the stretch in which the key's place lies; at the place one comparison tells whether the key is there.
 use Prim.Native.Nat.{ℕ, suc, ◌+◌, ◌*◌, ◌≤◌, ◌<◌}
 use native.Mathlib.Omega.{arith}
-use mathlib.Core.Path.{◌≡◌, sym, ap, ◌∙◌}
+use mathlib.Core.Path.{◌≡◌, refl, sym, ap, ◌∙◌}
 use mathlib.Core.List.{◌∷◌}
 use mathlib.Core.Bool.{true, false}
 use lib.Dec.{eqb, ltb}
@@ -68,6 +68,10 @@ module _ (t : Bytes) (k : ℕ) {i : ℕ} {p : Place} (q : record_form t ≡ true
 
   pub missed : p ≡ Gap i → Absent (store t) k i
   missed h = let there : place_of (store t) k ≡ Gap i = sym e ∙ h in rw there at (told t k q)
+
+-- where a search has a key, its record lies within the table
+pub found-inside : (t : Bytes) (k : ℕ) {i : ℕ} → record_form t ≡ true → Has i ≡ place_of (store t) k → 64 * i + 64 ≤ length t
+found-inside t k {i} q e = omega (arith, formed-within t q, (found t k {i = i} q e refl).inside)
 
 -- the words at a key's record
 record_is : (t : Bytes) (k i : ℕ) → Present (store t) k i → word_at t (64 * i) holds word_at t (64 * i + 32) ≡ k holds get (store t) k

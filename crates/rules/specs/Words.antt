@@ -15,7 +15,7 @@
 --   A ↔ B              A exactly if B
 --   x ∷ xs, xs ++ ys   first x, then the list xs; first the list xs, then the list ys. The list [] is empty.
 --   take n xs, drop n xs                    the first n of the list xs; what follows them
---   r.name            the part of r that has this name; `record` gives all parts, `data` lists the cases
+--   r.name             the part of r that has this name; `record` gives all parts, `data` lists the cases
 --   ℕ, suc n, 0x8005   the whole numbers from 0 on; n + 1; a number in hex
 --   s'                 another s, as it is after a call, say
 --   module _ (s : Store) where              what is indented below is said of any store s
@@ -24,7 +24,7 @@
 --   x / 256 ^ n        drops the last n bytes of x
 --   x % 256 ^ n        keeps them
 --   x / 2 ^ n          drops the last n bits of x
---   num, bytes_of       from bytes to their number, and back: 01 02 is 258, and 258 in 2 bytes is 01 02
+--   num, bytes_of      from bytes to their number, and back: 01 02 is 258, and 258 in 2 bytes is 01 02
 -- The last four lines are proved by example: `BytesAreNumbers` of Examples.
 --
 -- Some sentences have a test of the same name in lower case: `RecordForm` and `record_form`, `Ascending` and `ascending`, `Listed`

@@ -7,24 +7,21 @@ use Rattle.rules.specs.Words.{num}
 use Rattle.rules.specs.Table.{store}
 use Rattle.laws.proofs.TableRecords.{formed-within}
 use Rattle.finding.proofs.Places.{Present, Absent}
-use Rattle.finding.proofs.Finding.{found, missed}
+use Rattle.finding.proofs.Finding.{found, found-inside, missed}
 use Rattle.holding.proofs.HeldWords.{counted, counted_none}
 use Rattle.holding.proofs.read_count.Goals as goal
 
 pub overflow_mul-value_at : goal.overflow_mul-value_at
 overflow_mul-value_at c =
-    let p = found c.args.t.now (num c.count_slot-slot.result) c.requires.form c.in-Has.ensures refl in
-    omega (arith, formed-within c.args.t.now c.requires.form, p.inside)
+    omega (arith, found-inside c.args.t.now (num c.count_slot-slot.result) c.requires.form c.in-Has.ensures)
 
 pub overflow_add-value_at : goal.overflow_add-value_at
 overflow_add-value_at c =
-    let p = found c.args.t.now (num c.count_slot-slot.result) c.requires.form c.in-Has.ensures refl in
-    omega (arith, formed-within c.args.t.now c.requires.form, p.inside)
+    omega (arith, found-inside c.args.t.now (num c.count_slot-slot.result) c.requires.form c.in-Has.ensures)
 
 pub word_at-requires : goal.word_at-requires
 word_at-requires c =
-    let p = found c.args.t.now (num c.count_slot-slot.result) c.requires.form c.in-Has.ensures refl in
-    omega (arith, formed-within c.args.t.now c.requires.form, p.inside)
+    omega (arith, found-inside c.args.t.now (num c.count_slot-slot.result) c.requires.form c.in-Has.ensures)
 
 pub returns-in-Has : goal.returns-in-Has
 returns-in-Has c =

@@ -3,16 +3,15 @@ use Rattle.std.proofs.Common.{refl}
 use native.Mathlib.Omega.{arith}
 use Rattle.rules.specs.Words.{num}
 use Rattle.rules.specs.Table.{store}
-use Rattle.laws.proofs.TableRecords.{formed, formed-within}
+use Rattle.laws.proofs.TableRecords.{formed}
 use Rattle.finding.proofs.Places.{Present, through-present, through-absent}
-use Rattle.finding.proofs.Finding.{found, missed}
+use Rattle.finding.proofs.Finding.{found, found-inside, missed}
 use borrow.Author.Rules.{rules}
 use Rattle.records.proofs.keys_through.Goals as goal
 
 pub overflow_add-result : goal.overflow_add-result
 overflow_add-result c =
-    let p = found c.args.t.now (num c.args.key.now) (search rules) c.in-Has.ensures refl in
-    omega (arith, formed-within c.args.t.now (search rules), p.inside)
+    omega (arith, found-inside c.args.t.now (num c.args.key.now) (search rules) c.in-Has.ensures)
 
 pub returns-in-Has : goal.returns-in-Has
 returns-in-Has c =

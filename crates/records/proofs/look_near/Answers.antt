@@ -5,31 +5,27 @@ use mathlib.Core.Path.{refl, ◌≡◌, ap, ◌∙◌}
 use lib.ListN.{length, replicate}
 use Rattle.rules.specs.Words.{num}
 use Rattle.rules.specs.Table.{store}
-use Rattle.laws.proofs.TableRecords.{formed, formed-within}
+use Rattle.laws.proofs.TableRecords.{formed}
 use Rattle.finding.proofs.Places.{Present, Absent, through-present, through-absent}
-use Rattle.finding.proofs.Finding.{found, missed, look-present, look-absent}
+use Rattle.finding.proofs.Finding.{found, found-inside, missed, look-present, look-absent}
 use borrow.Author.Rules.{rules}
 use Rattle.records.proofs.look_near.Goals as goal
 
 pub overflow_mul-value_at : goal.overflow_mul-value_at
 overflow_mul-value_at c =
-    let p = found c.args.t.now (num c.args.key.now) (search rules) c.in-Has.ensures refl in
-    omega (arith, formed-within c.args.t.now (search rules), p.inside)
+    omega (arith, found-inside c.args.t.now (num c.args.key.now) (search rules) c.in-Has.ensures)
 
 pub overflow_add-value_at : goal.overflow_add-value_at
 overflow_add-value_at c =
-    let p = found c.args.t.now (num c.args.key.now) (search rules) c.in-Has.ensures refl in
-    omega (arith, formed-within c.args.t.now (search rules), p.inside)
+    omega (arith, found-inside c.args.t.now (num c.args.key.now) (search rules) c.in-Has.ensures)
 
 pub word_at-requires : goal.word_at-requires
 word_at-requires c =
-    let p = found c.args.t.now (num c.args.key.now) (search rules) c.in-Has.ensures refl in
-    omega (arith, formed-within c.args.t.now (search rules), p.inside)
+    omega (arith, found-inside c.args.t.now (num c.args.key.now) (search rules) c.in-Has.ensures)
 
 pub overflow_add-result : goal.overflow_add-result
 overflow_add-result c =
-    let p = found c.args.t.now (num c.args.key.now) (search rules) c.in-Has.ensures refl in
-    omega (arith, formed-within c.args.t.now (search rules), p.inside)
+    omega (arith, found-inside c.args.t.now (num c.args.key.now) (search rules) c.in-Has.ensures)
 
 pub returns-in-Has : goal.returns-in-Has
 returns-in-Has c = (

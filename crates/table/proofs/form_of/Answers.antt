@@ -1,16 +1,21 @@
 -- Each return names the part of the record form that failed, or that none did. `run` tells whether the keys ascend, and how many
 -- records are occupied.
 use native.Mathlib.Omega.{arith}
-use Rattle.std.proofs.Common.{refl, ◌≡◌, ℕ, ◌<◌, ◌≤◌, ◌%◌, length, get_or, sym, ◌∙◌}
-use Rattle.rules.specs.Words.{Bytes}
+use Rattle.std.proofs.Common.{refl, sym, ◌∙◌}
 use Rattle.laws.proofs.Numerals.{all-bytes}
 use Rattle.table.proofs.Forms.{form-not-whole, form-too-long, form-bad, Sized, used-within, form-unsorted, form-unclean, form-used}
 use borrow.Author.Rules.{rules}
 use Rattle.table.proofs.form_of.Goals as goal
+use Rattle.table.proofs.form_of.Goals.{After-run}
 
 -- the tests before `run`
-sized : (t : Bytes) → ((i : ℕ) → get_or t i 0 < 256) → length t % 64 ≡ 0 → length t ≤ 65536 → Sized t
-sized t fit whole short = record { lent = all-bytes t fit; whole = whole; short = short }
+sized : (c : After-run) → Sized c.args.t.now
+sized c =
+    record {
+      lent = all-bytes c.args.t.now (λ i. (c.type_inv.t i).fits);
+      whole = search rules;
+      short = search rules;
+    }
 
 pub returns-then-t-ne0 : goal.returns-then-t-ne0
 returns-then-t-ne0 c = form-bad _ (form-not-whole _ c.if-t-ne0.true)
@@ -20,23 +25,23 @@ returns-then-t-gt-GREATEST_TABLE c = form-bad _ (form-too-long _ c.if-t-ne0.fals
 
 pub overflow_mul-end : goal.overflow_mul-end
 overflow_mul-end c =
-    omega (arith, used-within (sized c.args.t.now (λ i. (c.type_inv.t i).fits) (search rules) (search rules)) c.in-Used.ensures refl)
+    omega (arith, used-within (sized (goal.at.overflow_mul-end c).After-run) c.in-Used.ensures refl)
 
 pub slice_bounds-is_blank-count : goal.slice_bounds-is_blank-count
 slice_bounds-is_blank-count c =
-    omega (arith, used-within (sized c.args.t.now (λ i. (c.type_inv.t i).fits) (search rules) (search rules)) c.in-Used.ensures refl)
+    omega (arith, used-within (sized (goal.at.slice_bounds-is_blank-count c).After-run) c.in-Used.ensures refl)
 
 pub slice_bounds-is_blank-start : goal.slice_bounds-is_blank-start
 slice_bounds-is_blank-start c =
-    omega (arith, used-within (sized c.args.t.now (λ i. (c.type_inv.t i).fits) (search rules) (search rules)) c.in-Used.ensures refl)
+    omega (arith, used-within (sized (goal.at.slice_bounds-is_blank-start c).After-run) c.in-Used.ensures refl)
 
 pub returns-then-is_blank : goal.returns-then-is_blank
 returns-then-is_blank c =
-    form-used (sized c.args.t.now (λ i. (c.type_inv.t i).fits) (search rules) (search rules)) c.in-Used.ensures refl (sym c.is_blank.ensures ∙ c.if-is_blank.true)
+    form-used (sized (goal.at.returns-then-is_blank c).After-run) c.in-Used.ensures refl (sym c.is_blank.ensures ∙ c.if-is_blank.true)
 
 pub returns-else-is_blank : goal.returns-else-is_blank
 returns-else-is_blank c =
-    form-unclean (sized c.args.t.now (λ i. (c.type_inv.t i).fits) (search rules) (search rules)) c.in-Used.ensures refl (sym c.is_blank.ensures ∙ c.if-is_blank.false)
+    form-unclean (sized (goal.at.returns-else-is_blank c).After-run) c.in-Used.ensures refl (sym c.is_blank.ensures ∙ c.if-is_blank.false)
 
 pub returns-in-Bad : goal.returns-in-Bad
-returns-in-Bad c = form-unsorted (sized c.args.t.now (λ i. (c.type_inv.t i).fits) (search rules) (search rules)) c.in-Bad.ensures refl
+returns-in-Bad c = form-unsorted (sized (goal.at.returns-in-Bad c).After-run) c.in-Bad.ensures refl
