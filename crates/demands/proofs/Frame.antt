@@ -14,7 +14,6 @@ use Rattle.rules.specs.Sound.{Belongs, current_here, entry_here, Sound}
 use Rattle.laws.proofs.Numbers.{same_or_not}
 use Rattle.laws.proofs.Slots.{Fits, slot-in_kernel_storage, regions-apart, fixed, in_procedure, one_end}
 use Rattle.laws.proofs.Places.{place_sound_of, sound_from, Came, came-sound, came-kept, belongs-carried}
-use Rattle.laws.proofs.Procedures.{short}
 
 module _
     (s s' : Store)

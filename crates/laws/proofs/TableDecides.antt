@@ -12,7 +12,7 @@ use lib.ListN.{length, take, drop}
 use borrow.Author.Tests.{eq-eqb}
 use Rattle.rules.specs.Words.{Bytes, AllBytes, num, same_bytes}
 use Rattle.rules.specs.Table.{Store, Ascending, Sized, RecordForm, record_size, greatest_table, bytes, room, occupied, store, length_fits, ascending_above, ascending, record_form}
-use Rattle.rules.specs.Sound.{SoundTable, sound, sound_table}
+use Rattle.rules.specs.Sound.{SoundTable, sound_table}
 use Rattle.laws.proofs.Bools.{if-and, tests-true, true-tests}
 use Rattle.laws.proofs.Words.{drop-bytes, first-word-bound}
 use Rattle.laws.proofs.Tables.{length-bytes, store_bytes, bytes-are-bytes}

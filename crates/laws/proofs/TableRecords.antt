@@ -1,6 +1,6 @@
 -- A table record by record: the i-th occupied record is the two words at byte 64 i, and a table is the bytes of its occupied
 -- records and then the rest, whatever its bytes are. What the test of the record form says of a table and its store, and back.
-use Prim.Native.Nat.{ℕ, zero, suc, ◌+◌, ◌*◌, ◌-◌, ◌≤◌, ◌<◌}
+use Prim.Native.Nat.{ℕ, zero, suc, ◌+◌, ◌*◌, ◌≤◌, ◌<◌}
 use native.Mathlib.Omega.{arith}
 use mathlib.Core.Path.{◌≡◌, refl, ap, ◌∙◌}
 use mathlib.Core.List.{[], ◌∷◌, ◌++◌, append_assoc}

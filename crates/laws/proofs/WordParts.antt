@@ -1,6 +1,6 @@
 -- Parts of bytes: the rest from an offset on, and a word in two parts, its leading bytes and the others. As a number a word is
 -- `high * 256 ^ others + low`: leading bytes that are not zero make it too large for the others, and division leaves its first byte.
-use Prim.Native.Nat.{ℕ, zero, suc, ◌+◌, ◌*◌, ◌/◌, ◌^◌, ◌-◌, ◌≤◌, ◌<◌}
+use Prim.Native.Nat.{ℕ, zero, suc, ◌+◌, ◌*◌, ◌^◌, ◌-◌, ◌≤◌, ◌<◌}
 use native.Mathlib.Omega.{arith}
 use native.Mathlib.Nat.{suc-mul}
 use mathlib.Core.Path.{◌≡◌, refl, sym, ap, ◌∙◌, subst}
@@ -10,7 +10,6 @@ use lib.ListN.{length, take, drop, get_or, length-take, length-drop}
 use lib.Seq.{take_all, drop-cons, drop-drop}
 use borrow.Author.Tests.{le-leb, lt-leb, leb-false, ne_eqb}
 use Rattle.rules.specs.Words.{Bytes, AllBytes, num_after, num, word_at}
-use Rattle.laws.proofs.Numbers.{digits_div}
 use Rattle.laws.proofs.Words.{num-fits, take-bytes, drop-bytes}
 use Rattle.laws.proofs.Numerals.{num-more}
 

@@ -1,5 +1,4 @@
 -- The loop keeps `Walking`: what is left of the walk is its answer.
-use Prim.Native.Nat.{◌-◌}
 use native.Mathlib.Omega.{arith}
 use borrow.Author.Rules.{rules}
 use Rattle.blocks.proofs.Walking.{walk-starts, has-record, after_first, later-turns, later-stops, head-turns, head-stops, walk-done}

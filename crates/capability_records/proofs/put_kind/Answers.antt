@@ -1,5 +1,4 @@
 -- The loop's invariant is `StoringKind`: of the requests from an offset on those of the type are left to store.
-use Prim.Native.Nat.{◌-◌}
 use native.Mathlib.Omega.{arith}
 use Rattle.capability_records.proofs.Requested.{kind-start, kind-inside, kind-pass, kind-ready, kind-turn, kind-end}
 use Rattle.capability_records.proofs.put_kind.Goals as goal

@@ -1,5 +1,4 @@
 -- The loop's invariant is `StoringWords`: the words from word k on are left to store.
-use Prim.Native.Nat.{◌-◌}
 use native.Mathlib.Omega.{arith}
 use Rattle.capability_records.proofs.CapabilityWords.{words-start, words-ready, words-turn, words-end}
 use Rattle.capability_records.proofs.put_words.Goals as goal

@@ -1,5 +1,4 @@
 -- The loop's invariant is `CountingKinds`: the types from a number on are left to count.
-use Prim.Native.Nat.{◌-◌}
 use native.Mathlib.Omega.{arith}
 use mathlib.Core.Path.{refl}
 use Rattle.counting.proofs.Counting.{counting-kinds, counted-kind, counted-kinds}

@@ -1,5 +1,4 @@
 -- The loop's invariant is `CountingRequests`: the requests from an offset on are left to count.
-use Prim.Native.Nat.{◌-◌}
 use native.Mathlib.Omega.{arith}
 use Rattle.counting.proofs.Counting.{counting-requests, request-words-within, counted-request, counted-requests}
 use Rattle.counting.proofs.requests_taken.Goals as goal

@@ -1,5 +1,4 @@
 -- The loop's invariant is `CountingWords`: the words from word k on are left to count.
-use Prim.Native.Nat.{◌-◌}
 use native.Mathlib.Omega.{arith}
 use Rattle.counting.proofs.Counting.{counting-words, counted-word, counted_words}
 use Rattle.counting.proofs.words_taken.Goals as goal

@@ -1,7 +1,6 @@
 -- The invariant is `Decoded`: the first i pairs are in their place, and their characters that are no digits are counted.
 use borrow.Author.Rules.{rules}
 use Rattle.digits.proofs.Turns.{decoded-none, decoded-more, decoded-all}
-use Prim.Native.Nat.{◌-◌}
 use mathlib.Core.Path.{◌≡◌, ap₂, ◌∙◌}
 use Rattle.digits.specs.Decoding.{byte_of, others_of}
 use Rattle.digits.proofs.decode_pairs.Goals as goal

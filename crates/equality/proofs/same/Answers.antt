@@ -1,5 +1,4 @@
 -- The invariant is `Agree`: the first bytes, up to the offset, are the same. Limbs that differ decide, and at the end the last ones.
-use Prim.Native.Nat.{◌-◌}
 use borrow.Author.Rules.{rules}
 use Rattle.laws.proofs.Numerals.{all-bytes}
 use Rattle.equality.proofs.ByLimbs.{agree-none, agree-more, agree-all, limbs-differ}

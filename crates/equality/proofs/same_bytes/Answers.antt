@@ -1,5 +1,4 @@
 -- The invariant is `Gathered`: the differences so far are zero exactly where the numbers of the first i bytes are the same.
-use Prim.Native.Nat.{◌-◌}
 use borrow.Author.Rules.{rules}
 use Rattle.equality.proofs.Differences.{gathered_none, gathered-more, gathered-all}
 use Rattle.equality.proofs.same_bytes.Goals as goal

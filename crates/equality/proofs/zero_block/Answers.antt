@@ -1,5 +1,4 @@
 -- The invariant is `Block`: the bits gathered so far are zero exactly where the bytes before the offset are.
-use Prim.Native.Nat.{◌-◌}
 use borrow.Author.Rules.{rules}
 use Rattle.equality.proofs.ByLimbs.{block_none, block_more, block-all}
 use Rattle.equality.proofs.zero_block.Goals as goal

@@ -1,5 +1,4 @@
 -- The invariant is `Bits`: the bits gathered so far are zero exactly where the number of the first i bytes is.
-use Prim.Native.Nat.{◌-◌}
 use borrow.Author.Rules.{rules}
 use Rattle.equality.proofs.Differences.{bits_none, bits-more, bits-all}
 use Rattle.equality.proofs.zero_bytes.Goals as goal

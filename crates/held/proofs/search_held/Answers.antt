@@ -1,6 +1,5 @@
 -- The loop keeps `Seeking`: none of those tested so far contains the request, the rest is left to search, and there are copies of
 -- those tested.
-use Prim.Native.Nat.{◌-◌}
 use native.Mathlib.Omega.{arith}
 use Rattle.held.proofs.Searching.{seek-start, comparable, seek-later, seek_found, seek-end}
 use Rattle.held.proofs.search_held.Goals as goal

@@ -1,12 +1,7 @@
 -- What stands at the count's record is the count, and `small` answers for it; where there is no record, the count is 0.
 use Rattle.std.proofs.Common.{refl}
-use Prim.Native.Nat.{◌+◌, ◌*◌, ◌≤◌}
 use native.Mathlib.Omega.{arith}
-use lib.ListN.{length}
 use Rattle.rules.specs.Words.{num}
-use Rattle.rules.specs.Table.{store}
-use Rattle.laws.proofs.TableRecords.{formed-within}
-use Rattle.finding.proofs.Places.{Present, Absent}
 use Rattle.finding.proofs.Finding.{found, found-inside, missed}
 use Rattle.holding.proofs.HeldWords.{counted, counted_none}
 use Rattle.holding.proofs.read_count.Goals as goal

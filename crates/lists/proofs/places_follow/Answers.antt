@@ -1,5 +1,4 @@
 -- The loop keeps `Following`: the places before have their keys.
-use Prim.Native.Nat.{◌-◌}
 use native.Mathlib.Omega.{arith}
 use mathlib.Core.Path.{◌∙◌}
 use borrow.Author.Rules.{rules}

@@ -1,5 +1,4 @@
 -- The invariant is `Cleared`: the first i bytes are zeros, and the others are still the old ones.
-use Prim.Native.Nat.{◌-◌}
 use borrow.Author.Rules.{rules}
 use Rattle.shifts.proofs.Overwrites.{clear-start, clear-turn, clear-end}
 use Rattle.moves.proofs.clear.Goals as goal

@@ -1,5 +1,4 @@
 -- The invariant is `Front`: the first i bytes are those of `from`, and the others are still the old ones.
-use Prim.Native.Nat.{◌-◌}
 use mathlib.Core.Path.{refl}
 use borrow.Author.Rules.{rules}
 use Rattle.shifts.proofs.Overwrites.{front-start, front-turn, front-all}

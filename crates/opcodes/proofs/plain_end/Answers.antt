@@ -1,5 +1,4 @@
 -- The loop's invariant is `Walked`: the opcodes from the first on are allowed and push nothing, so what is left from the index on decides.
-use Prim.Native.Nat.{◌-◌}
 use native.Mathlib.Omega.{arith}
 use mathlib.Core.Path.{sym, ◌∙◌}
 use Rattle.opcodes.proofs.Walks.{walked_none, walked-plain}

@@ -1,6 +1,5 @@
 -- The loop's invariant is `Walked`: what is left of the code from the index on decides. Each step passes the opcodes that push nothing,
 -- and then adds one opcode and its data, so the index rises, and with the code's bounded length no sum wraps.
-use Prim.Native.Nat.{◌-◌}
 use native.Mathlib.Omega.{arith}
 use mathlib.Core.Path.{sym, ◌∙◌}
 use Rattle.opcodes.proofs.Walks.{data-most, walked_none, walked_on, walked_more, walked_stop, walked_all}

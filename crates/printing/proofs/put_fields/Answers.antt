@@ -1,8 +1,6 @@
 -- Each return is a case of the answer.
 use Rattle.writing.proofs.Texts.{wrote_none, wrote-both}
 use Rattle.printing.specs.Printing.{printed_fields}
-use mathlib.Core.Path.{◌≡◌}
-use lib.ListN.{length}
 use borrow.Author.Rules.{rules}
 use Rattle.printing.proofs.put_fields.Goals as goal
 

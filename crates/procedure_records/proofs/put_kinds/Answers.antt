@@ -1,5 +1,4 @@
 -- The loop's invariant is `StoringKinds`: the types from a number on are left to store.
-use Prim.Native.Nat.{◌-◌}
 use native.Mathlib.Omega.{arith}
 use Rattle.procedure_records.proofs.AllTypes.{kinds-start, kinds-ready, kinds-kind, kinds-turn, kinds-end}
 use Rattle.procedure_records.proofs.put_kinds.Goals as goal

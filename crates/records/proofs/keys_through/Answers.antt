@@ -2,9 +2,8 @@
 use Rattle.std.proofs.Common.{refl}
 use native.Mathlib.Omega.{arith}
 use Rattle.rules.specs.Words.{num}
-use Rattle.rules.specs.Table.{store}
 use Rattle.laws.proofs.TableRecords.{formed}
-use Rattle.finding.proofs.Places.{Present, through-present, through-absent}
+use Rattle.finding.proofs.Places.{through-present, through-absent}
 use Rattle.finding.proofs.Finding.{found, found-inside, missed}
 use borrow.Author.Rules.{rules}
 use Rattle.records.proofs.keys_through.Goals as goal

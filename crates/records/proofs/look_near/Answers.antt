@@ -1,12 +1,11 @@
 -- As in `look` the value is what the key holds, and as in `keys_through` a key that is there is one more than those below it.
-use Prim.Native.Nat.{ℕ, ◌+◌, ◌*◌, ◌≤◌}
+use Prim.Native.Nat.{ℕ}
 use native.Mathlib.Omega.{arith}
 use mathlib.Core.Path.{refl, ◌≡◌, ap, ◌∙◌}
 use lib.ListN.{length, replicate}
 use Rattle.rules.specs.Words.{num}
-use Rattle.rules.specs.Table.{store}
 use Rattle.laws.proofs.TableRecords.{formed}
-use Rattle.finding.proofs.Places.{Present, Absent, through-present, through-absent}
+use Rattle.finding.proofs.Places.{through-present, through-absent}
 use Rattle.finding.proofs.Finding.{found, found-inside, missed, look-present, look-absent}
 use borrow.Author.Rules.{rules}
 use Rattle.records.proofs.look_near.Goals as goal

@@ -1,5 +1,4 @@
 -- The loop's invariant is `Walked`: the requests passed are good. A request of no bytes is malformed, and so is the series.
-use Prim.Native.Nat.{◌-◌}
 use mathlib.Core.Path.{sym, ◌∙◌}
 use native.Mathlib.Omega.{arith}
 use Rattle.requests.proofs.Walked.{walked_none, walked_more, walked_stop, walked_all, empty-series, stray-end}

@@ -1,5 +1,4 @@
 -- The loop's invariant is `Counted`: the counts so far, and what is left of the requests.
-use Prim.Native.Nat.{◌-◌}
 use native.Mathlib.Omega.{arith}
 use Rattle.series.proofs.Counted.{number-below, counted_none, counted-more, counted-all}
 use Rattle.series.proofs.requested.Goals as goal

@@ -1,5 +1,4 @@
 -- The loop's invariant is `Searched`: no count before the number is too large.
-use Prim.Native.Nat.{◌-◌}
 use native.Mathlib.Omega.{arith}
 use Rattle.series.proofs.Counted.{searched-none, searched-more, searched-stop, searched-all}
 use Rattle.series.proofs.too_many.Goals as goal

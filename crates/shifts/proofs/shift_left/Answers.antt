@@ -1,5 +1,4 @@
 -- The invariant is `Front`: the first i bytes are those that stood n places further, and the others are still the old ones.
-use Prim.Native.Nat.{◌-◌}
 use native.Mathlib.Omega.{arith}
 use mathlib.Core.Path.{refl}
 use lib.ListN.{length-drop}

@@ -1,6 +1,6 @@
 -- The invariant is `Run`: the records passed are occupied, and whether the keys ascend is still whether those from the last of them
 -- on do. A record whose value is zero ends them, and a key that is not above the one before it decides.
-use Prim.Native.Nat.{ℕ, ◌-◌}
+use Prim.Native.Nat.{ℕ}
 use mathlib.Core.Path.{sym, ap, ◌∙◌}
 use lib.Dec.{eqb}
 use Rattle.table.proofs.Forms.{run-starts, run-stops, run-turns, run-falls, run-ends-full}

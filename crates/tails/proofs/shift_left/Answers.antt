@@ -1,5 +1,4 @@
 -- The invariant is `Left`: the bytes before i are in their places, and those from i on are as they were. A turn moves the next record.
-use Prim.Native.Nat.{◌-◌}
 use native.Mathlib.Omega.{arith}
 use borrow.Author.Rules.{rules}
 use Rattle.tails.proofs.Shifted.{left-start, left-fits, left-turn, left_end}

@@ -1,5 +1,4 @@
 -- The invariant is `Right`: the bytes from i on have moved by n, and those before are as they were. A turn moves the record before i.
-use Prim.Native.Nat.{◌-◌}
 use native.Mathlib.Omega.{arith}
 use borrow.Author.Rules.{rules}
 use Rattle.tails.proofs.Shifted.{right-start, right-fits, right-turn, right_end}

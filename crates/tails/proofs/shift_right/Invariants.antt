@@ -1,5 +1,4 @@
 -- The invariant is `Right`: the bytes from i on have moved by n, and those before are as they were. A turn moves the record before i.
-use Prim.Native.Nat.{◌-◌}
 use Rattle.tails.proofs.Shifted.{Right}
 use Rattle.tails.proofs.shift_right.Given as goal
 

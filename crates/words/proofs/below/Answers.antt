@@ -1,5 +1,4 @@
 -- The invariant is `Agree`: the words agree before the offset. The first limbs that differ decide, and at the end the words are equal.
-use Prim.Native.Nat.{◌-◌}
 use borrow.Author.Rules.{rules}
 use Rattle.limbs.proofs.Limbs.{a_word}
 use Rattle.words.proofs.Compares.{agree-none, agree-more, agree-all, first-differs}

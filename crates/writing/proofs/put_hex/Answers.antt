@@ -1,7 +1,6 @@
 -- The invariant is `Hexed`: the first i bytes are written.
 use Rattle.writing.proofs.Texts.{hexed-none, hexed-more, hexed-all}
 use borrow.Author.Rules.{rules}
-use Prim.Native.Nat.{◌-◌}
 use Rattle.writing.proofs.put_hex.Goals as goal
 
 pub loop-i-init : goal.loop-i-init
