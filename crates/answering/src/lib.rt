@@ -5,8 +5,6 @@ ghost use Rattle.std.proofs.Math.Option.{some};
 ghost use Rattle.rules.specs.Program.{message_of, program_mask};
 ghost use Rattle.answering.specs.Answering.{answer_of, Answers, message_room, answer_room};
 
-use digits::Line;
-
 // Room for the answer of any line.
 pub const ANSWER_ROOM: usize = printing::LINE_ROOM + 2 * digits::GREATEST_MESSAGE;
 
@@ -35,8 +33,7 @@ fn answer_message(t: &mut [u8], message: &[u8], out: &mut [u8], at: usize) -> us
 {
     let mask = mask();
     let reply = kernel::system_call(t, message, &CODE, &mask);
-    let answer = reply.answer;
-    printing::print(out, at, reply, kernel::payload(message, answer))
+    printing::print(out, at, reply, kernel::payload(message, reply))
 }
 
 // A line's answer.
@@ -46,7 +43,7 @@ pub fn answer_line(t: &mut [u8], line: &[u8], out: &mut [u8], at: usize) -> usiz
 {
     let mut message = message_room();
     match digits::decode(line, &mut message) {
-        Line::Message(n) => answer_message(t, &message[0..n], out, at),
-        Line::Other => printing::print_other(out, at),
+        Some(n) => answer_message(t, &message[0..n], out, at),
+        None => printing::print_other(out, at),
     }
 }

@@ -31,6 +31,5 @@ pub fn beaker_system_call(table: &mut [u8], message: &[u8], code: &[u8], mask: &
     ensures { SystemCallExports table.old message.now code.now mask.now result table.new }
 {
     let reply = kernel::system_call(table, message, code, mask);
-    let answer = reply.answer;
-    replies::laid_out(reply, kernel::payload(message, answer).len())
+    replies::laid_out(reply, kernel::payload(message, reply).len())
 }

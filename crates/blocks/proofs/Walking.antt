@@ -1,16 +1,8 @@
 -- The loop over the records of the procedures: what is left of the walk is its answer. Records before the list have lower keys than
 -- the list length, those from the first on have keys of kernel storage, so each step of the loop is a step of the walk.
-use Prim.Native.Nat.{ℕ, suc, ◌+◌, ◌*◌, ◌-◌, ◌%◌, ◌^◌, ◌≤◌, ◌<◌, min}
-use native.Mathlib.Omega.{arith}
-use native.Mathlib.Nat.{le_trans}
-use native.Mathlib.Numerals.{add-one}
-use mathlib.Core.Path.{◌≡◌, refl, sym, ap, ◌∙◌}
-use mathlib.Core.List.{◌∷◌}
-use mathlib.Core.Bool.{Bool, true, false, true≢false, ◌&&◌}
+use Rattle.std.proofs.Common.{ℕ, suc, ◌+◌, ◌*◌, ◌-◌, ◌%◌, ◌^◌, ◌≤◌, ◌<◌, min, arith, le_trans, add-one, ◌≡◌, refl, sym, ap, ◌∙◌, ◌∷◌, Bool, true, false, true≢false, ◌&&◌, eqb, leb, ltb, drop, replicate, ne_eqb, leb-true, leb-false, le-leb, ltb-true, ltb-false}
 use mathlib.Core.Option.{Option, none, some}
-use lib.Dec.{eqb, leb, ltb}
-use lib.ListN.{drop, replicate}
-use borrow.Author.Tests.{ne_eqb, leb-true, leb-false, le-leb, lt-leb, ltb-true, ltb-false}
+use borrow.Author.Tests.{lt-leb}
 use Rattle.rules.specs.Words.{Bytes, num_after, num, word_at}
 use Rattle.rules.specs.Table.{Store, ◌holds◌, store}
 use Rattle.rules.specs.KernelStorage.{address_slot, ending, length_slot}

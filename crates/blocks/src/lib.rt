@@ -24,11 +24,11 @@ fn continues(t: &[u8], first: usize, i: usize) -> bool
     requires { HasRecord t.now i }
     ensures { result ≡ continues_at t.now first i }
 {
-    if i <= first {
-        return false;
-    }
-    let before = moves::word_at(t, rules::RECORD_SIZE * (i - 1));
-    heads::same_front(moves::word_at(t, rules::RECORD_SIZE * i), before)
+    first < i
+        && heads::same_front(
+            moves::word_at(t, rules::RECORD_SIZE * i),
+            moves::word_at(t, rules::RECORD_SIZE * (i - 1)),
+        )
 }
 
 // Whether the i-th record may stand behind the one before it, of the same procedure, where `count` of that one's type are counted.
@@ -63,20 +63,21 @@ pub fn blocks_form(t: &[u8], used: usize, list: usize, places: usize) -> bool
     let mut i = first;
     let mut blocks = 0;
     let mut count = 0;
+    // A loop by hand: a step passes one record, or the two that begin a procedure.
     while i < list {
         if continues(t, first, i) {
-            if later(t, i, count) {
-                count = counted(t, i, count);
-                i += 1;
-            } else {
+            if !later(t, i, count) {
                 return false;
             }
-        } else if heads::head_rows(t, list, places, i) {
+            count = counted(t, i, count);
+            i += 1;
+        } else {
+            if !heads::head_rows(t, list, places, i) {
+                return false;
+            }
             blocks += 1;
             count = 0;
             i += 2;
-        } else {
-            return false;
         }
     }
     blocks == places

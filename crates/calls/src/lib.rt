@@ -7,10 +7,7 @@ ghost use Rattle.rules.specs.Answers.{◌then◌, outcome};
 ghost use Rattle.rules.specs.Calls.{call_row, call_effect, set_entry_row, set_entry_effect, write_row, write_effect};
 ghost use Rattle.results.specs.Results.{SoundWith, NamesKey, Gives};
 
-use rules::{Kind, Refusal, Reply};
-
-// Where in a word an address begins.
-const ADDRESS_AT: usize = rules::WORD_BYTES - rules::ADDRESS_BYTES;
+use rules::{Kind, Refusal, Reply, Success};
 
 // The 20 bytes of a word that holds an address.
 fn address_part(word: &[u8]) -> [u8; rules::ADDRESS_BYTES]
@@ -18,7 +15,7 @@ fn address_part(word: &[u8]) -> [u8; rules::ADDRESS_BYTES]
     ensures { result ≡ bytes_of address_bytes (num word.now) }
 {
     let mut address = [0; rules::ADDRESS_BYTES];
-    moves::copy(&mut address, &word[ADDRESS_AT..rules::WORD_BYTES]);
+    moves::copy(&mut address, &word[key_words::ADDRESS_AT..]);
     address
 }
 
@@ -29,14 +26,14 @@ pub fn call(t: &[u8], used: usize, d: &[u8]) -> Reply
     ensures { Gives (outcome t.now (call_row (store t.now) d.now then call_effect (store t.now) d.now)) result t.now }
 {
     if !acting::permits(t, used, Kind::CALL, d, messages::key_word(d)) {
-        return Reply::refused(Refusal::NOT_COVERED);
+        return Err(Refusal::NOT_COVERED);
     }
     let callee = messages::key_of(d);
     if !acting::is_listed(t, used, callee) {
-        return Reply::refused(Refusal::NOT_LISTED);
+        return Err(Refusal::NOT_LISTED);
     }
     let slot = slots::address_slot(callee);
-    Reply::called(address_part(&listing::value_at(t, used, &slot)))
+    Ok(Success::Called(address_part(&listing::value_at(t, used, &slot))))
 }
 
 // Set Entry: 33, 66 33; then the entry slot alone changes.
@@ -46,14 +43,14 @@ pub fn set_entry(t: &mut [u8], used: usize, d: &[u8]) -> Reply
     ensures { Gives (outcome t.old (set_entry_row (store t.old) d.now then set_entry_effect (store t.old) d.now)) result t.new }
 {
     if !acting::index_in_range(t, used, Kind::SET_ENTRY, d) {
-        return Reply::refused(Refusal::NOT_COVERED);
+        return Err(Refusal::NOT_COVERED);
     }
     if !acting::is_listed(t, used, messages::key_of(d)) {
-        return Reply::refused(Refusal::NOT_LISTED);
+        return Err(Refusal::NOT_LISTED);
     }
     let slot = slots::entry_slot();
     storing::put(t, used, &slot, messages::key_word(d));
-    Reply::done()
+    Ok(Success::Done)
 }
 
 // Write: 33 (index, cover, kernel storage), 66 e7; then one slot changes.
@@ -65,14 +62,14 @@ pub fn write(t: &mut [u8], used: usize, d: &[u8]) -> Reply
     let address = messages::write_address(d);
     let value = messages::write_value(d);
     if !acting::permits(t, used, Kind::WRITE, d, address) {
-        return Reply::refused(Refusal::NOT_COVERED);
+        return Err(Refusal::NOT_COVERED);
     }
     if keys::in_kernel_storage(address) {
-        return Reply::refused(Refusal::NOT_COVERED);
+        return Err(Refusal::NOT_COVERED);
     }
     if t.len() / rules::RECORD_SIZE < storing::needed(t, used, address, value) {
-        return Reply::refused(Refusal::NO_ROOM);
+        return Err(Refusal::NO_ROOM);
     }
     storing::put(t, used, address, value);
-    Reply::done()
+    Ok(Success::Done)
 }

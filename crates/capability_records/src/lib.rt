@@ -5,27 +5,23 @@ ghost use Rattle.capability_records.specs.CapabilityRecords.{WordsNeeds, WordsSt
 
 use rules::Kind;
 
-// The words of the i-th capability of a type, which begin at an offset of the data, at their slots.
+// The words of the i-th capability of a type, at their slots.
 fn put_words(
     t: &mut [u8],
     used: usize,
     procedure: &[u8],
     kind: Kind,
     i: u8,
-    d: &[u8],
-    at: usize,
+    capability: &[u8],
 ) -> usize
-    requires { WordsNeeds t.old used procedure.now kind.0 i d.now at }
-    ensures { WordsStored t.old t.new result (num procedure.now) kind.0 i d.now at }
+    requires { WordsNeeds t.old used procedure.now kind.0 i capability.now }
+    ensures { WordsStored t.old t.new result (num procedure.now) kind.0 i capability.now }
 {
-    let count = kind.words();
     let mut stored = used;
-    let mut k = 0;
-    while k < count {
+    for k in 0..kind.words() {
         let slot = slots::word_slot(procedure, kind, i, k as u8);
-        let word_at = at + rules::WORD_BYTES * k;
-        stored = storing::put(t, stored, &slot, moves::word_at(d, word_at));
-        k += 1;
+        let word = moves::word_at(capability, rules::WORD_BYTES * k);
+        stored = storing::put(t, stored, &slot, word);
     }
     stored
 }
@@ -43,17 +39,17 @@ pub fn put_kind(
     requires { KindNeeds t.old used procedure.now kind.0 count d.now }
     ensures { KindStored t.old t.new result (num procedure.now) kind.0 d.now }
 {
-    let number = kind.0;
     let mut stored = used;
     let mut i = 0;
-    let mut at = rules::SERIES_AT;
-    while i < count {
-        let request = series::request_at(d, at);
-        if request.kind.0 == number {
-            i += 1;
-            stored = put_words(t, stored, procedure, kind, i as u8, d, request.words_at);
+    // Counted by hand: `filter`, `take` and `enumerate` before the loop would be no plainer.
+    for request in series::requests(d) {
+        if i == count {
+            break;
         }
-        at = request.next;
+        if request.kind == kind {
+            i += 1;
+            stored = put_words(t, stored, procedure, kind, i as u8, request.words);
+        }
     }
     stored
 }

@@ -10,9 +10,8 @@ pub fn close(t: &mut [u8], i: usize, j: usize, used: usize)
     ensures { t.new ≡ closed i j used t.old }
 {
     let at = rules::RECORD_SIZE * i;
-    let gap = rules::RECORD_SIZE * j - at;
+    let from = rules::RECORD_SIZE * j;
     let end = rules::RECORD_SIZE * used;
-    tails::shift_left(&mut t[at..end], gap);
-    let last = end - gap;
-    moves::clear(&mut t[last..end]);
+    t.copy_within(from..end, at);
+    moves::clear(&mut t[at + (end - from)..end]);
 }

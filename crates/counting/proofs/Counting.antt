@@ -1,139 +1,117 @@
--- The loops that count what is not zero: over the words of a capability, over the requests, and over the types. Each keeps that what
--- it has counted and what is left make up the whole.
-use Prim.Native.Nat.{ℕ, suc, ◌+◌, ◌*◌, ◌-◌, ◌≤◌, ◌<◌}
+-- The loops that count what is not zero: over the words of a capability, and over the requests. Each keeps that what it has counted
+-- and what is left make up the whole. Last, the types that are requested.
+use Rattle.std.proofs.Common.{ℕ, suc, ◌+◌, ◌/◌, ◌≤◌, ◌<◌, ◌≡◌, refl, sym, ap, ◌∙◌, List, [], ◌∷◌, ◌++◌, length, take, drop, Bool, true, false, not}
+use Rattle.std.specs.Prelude.{cond, count_by}
+use Rattle.std.proofs.lemmas.List.{length-append, take-append-le, drop-append-le, take_all}
+use lib.ListN.{drop_of_length-le}
 use native.Mathlib.Omega.{arith}
-use mathlib.Core.Path.{◌≡◌, sym, ap, ◌∙◌}
-use mathlib.Core.List.{List, ◌∷◌}
-use mathlib.Core.Bool.{Bool}
 use lib.Dec.{eqb}
-use lib.ListN.{length, drop, get_or}
-use lib.Seq.{drop-drop}
-use Rattle.rules.specs.Words.{Bytes, num, word_at, words}
-use Rattle.rules.specs.Capabilities.{kinds, number, word_count}
-use Rattle.rules.specs.Messages.{Request, series_at, requests, requested_of}
-use Rattle.rules.specs.Source.{words_of}
-use Rattle.laws.proofs.KindFacts.{kind_of-number, word_count-small, next}
-use Rattle.moves.specs.Moves.{WordPart}
-use Rattle.requests.specs.Requests.{WellFormedFrom, requests_from, capability_at}
-use Rattle.series.specs.Series.{RequestAt, requested_counts}
+use Rattle.rules.specs.Words.{Bytes, num, words}
+use Rattle.rules.specs.Capabilities.{call, register, delete, set_entry, write, kinds, word_count}
+use Rattle.rules.specs.Messages.{Request, requests, requested_of}
+use Rattle.laws.proofs.KindFacts.{word_count-small}
+use Rattle.series.specs.Series.{left, bytes_left, AllLeft, FirstLeft, requested_counts}
 use Rattle.series.specs.declared.Request.{Request as Found}
-use Rattle.requests.proofs.Types.{named-words}
-use Rattle.requests.proofs.Steps.{requests-start, requests-end}
-use Rattle.series.proofs.Counted.{requested-at}
+use Rattle.series.specs.declared.Series.{Series}
 use Rattle.counting.specs.Counting.{taken_if, taken_by, words_taken, requests_taken, kinds_taken, WordsTaken}
 
--- the words from word k on, of those that begin at an offset
-pub words-next : (d : Bytes) (at count k : ℕ) → k < count
-    → words (count - k) (drop (at + 32 * k) d) ≡ word_at d (at + 32 * k) ∷ words (count - (k + 1)) (drop (at + 32 * (k + 1)) d)
-unfolding words word_at
-words-next d at count k h =
-    let one : count - k ≡ suc (count - (k + 1)) = omega arith in
-    let next : at + 32 * k + 32 ≡ at + 32 * (k + 1) = omega arith in
-    let behind : drop 32 (drop (at + 32 * k) d) ≡ drop (at + 32 * (k + 1)) d = drop-drop 32 (at + 32 * k) d ∙ ap (λ (j : ℕ). drop j d) next in
-    rw (one, behind)
+-- the words of bytes, as many as are whole
+abbrev whole : Bytes → List ℕ
+whole bs = words (length bs / 32) bs
 
--- what `taken` answers, where its argument is whether a number is zero
-taken_is : (v : ℕ) {r : ℕ} {zero : Bool} → zero ≡ eqb v 0 → r ≡ taken_if zero → r ≡ taken_by v
-unfolding taken_by
-taken_is v z e = e ∙ ap taken_if z
+first-word : (word rest : Bytes) → length word ≡ 32 → whole (word ++ rest) ≡ num word ∷ whole rest
+unfolding words
+first-word word rest h =
+    let long = length-append word rest in
+    let one : length (word ++ rest) / 32 ≡ suc (length rest / 32) = omega (arith, long, h) in
+    let past : length word ≤ 32 = omega (arith, h) in
+    let front : take 32 (word ++ rest) ≡ word = take-append-le 32 word rest (omega (arith, h)) ∙ take_all 32 word (omega (arith, h)) in
+    let back : drop 32 (word ++ rest) ≡ rest =
+    drop-append-le 32 word rest (omega (arith, h)) ∙ ap (λ (x : Bytes). x ++ rest) (drop_of_length-le word past) in
+    rw (one, front, back)
 
--- The words, of which k are counted.
-pub record CountingWords (d : Bytes) (at count total k : ℕ) : Type 0 where
-  pub few : k ≤ count
-  pub small : total ≤ k
-  pub left : words_taken (words count (drop at d)) ≡ total + words_taken (words (count - k) (drop (at + 32 * k) d))
+-- The words, of which those that are left are yet to count.
+pub record CountingWords (bs : Bytes) (size total : ℕ) (rest : Bytes) : Type 0 where
+  pub of_words : size ≡ 32
+  pub small : total + length rest / 32 ≤ length bs / 32
+  pub left : words_taken (whole bs) ≡ total + words_taken (whole rest)
 
-pub counting-words : (d : Bytes) (at count : ℕ) → CountingWords d at count 0 0
-counting-words d at count =
-    let all : count - 0 ≡ count = omega arith in
-    let here : at + 32 * 0 ≡ at = omega arith in
-    record { few = omega arith; small = omega arith; left = rw (all, here) (omega arith) }
+pub counting-words : (bs : Bytes) → CountingWords bs 32 0 bs
+counting-words bs = record { of_words = refl; small = omega arith; left = omega arith }
 
-pub counted-word : {d : Bytes} {at count total k r : ℕ} {part : Bytes} {zero : Bool} → CountingWords d at count total k → k < count
-    → WordPart d (at + 32 * k) part → zero ≡ eqb (num part) 0 → (r ≡ taken_if zero) × (r ≤ 1)
-    → CountingWords d at count (total + r) (k + 1)
-unfolding words_taken
-counted-word {d} {at} {count} {total} {k} w h part z e =
-    let this = taken_is (word_at d (at + 32 * k)) (z ∙ ap (λ (x : ℕ). eqb x 0) part.number) e.0 in
-    let next = ap words_taken (words-next d at count k h) in
-    record { few = omega arith; small = omega (arith, w.small, e.1); left = omega (arith, w.left, this, next) }
+-- a word is counted, or passed over
+module _ {bs : Bytes} {size total : ℕ} {rest : Bytes} (w : CountingWords bs size total rest) (word more : Bytes) (e : rest ≡ word ++ more)
+    (h : length word ≡ size) {size' : ℕ} (same : size' ≡ size) where
+  next-word : words_taken (whole rest) ≡ taken_by (num word) + words_taken (whole more)
+  unfolding words_taken
+  next-word = ap (λ (x : Bytes). words_taken (whole x)) e ∙ ap words_taken (first-word word more (h ∙ w.of_words))
 
-pub counted_words : {d : Bytes} {at count total k : ℕ} → CountingWords d at count total k → count ≤ k
-    → WordsTaken count (words count (drop at d)) total
+  shorter : suc (length more / 32) ≡ length rest / 32
+  shorter = omega (arith, ap length e ∙ length-append word more, h, w.of_words)
+
+  pub counted-word : false ≡ eqb (num word) 0 → CountingWords bs size' (total + 1) more
+  unfolding taken_by
+  counted-word z =
+      let one : taken_by (num word) ≡ 1 = ap taken_if (sym z) in
+      record { of_words = same ∙ w.of_words; small = omega (arith, w.small, shorter); left = omega (arith, w.left, next-word, one) }
+
+  pub passed-word : true ≡ eqb (num word) 0 → CountingWords bs size' total more
+  unfolding taken_by
+  passed-word z =
+      let none : taken_by (num word) ≡ 0 = ap taken_if (sym z) in
+      record { of_words = same ∙ w.of_words; small = omega (arith, w.small, shorter); left = omega (arith, w.left, next-word, none) }
+
+pub counted_words : {bs : Bytes} {size total : ℕ} {rest : Bytes} → CountingWords bs size total rest → length rest < size → WordsTaken bs total
 unfolding words words_taken
-counted_words {d} {at} {count} {total} {k} w h =
-    let none : count - k ≡ 0 = omega arith in
-    let left : words_taken (words count (drop at d)) ≡ total + 0 = rw none at w.left in
-    record { is = omega arith; small = omega (arith, w.few, w.small) }
+counted_words {bs} {size} {total} {rest} w h =
+    let none : length rest / 32 ≡ 0 = omega (arith, w.of_words) in
+    let left : words_taken (whole bs) ≡ total + 0 = rw none at w.left in
+    record { is = omega arith; small = omega (arith, w.small) }
 
--- The requests, of which those before an offset are counted. A request has at least 64 bytes and at most two words.
-pub record CountingRequests (d : Bytes) (at total : ℕ) : Type 0 where
-  pub small : total ≤ length d
-  pub low : total ≤ at
-  pub left : requests_taken (requests d) ≡ total + requests_taken (requests_from d at)
-  pub rest : WellFormedFrom d at
+-- The requests, of which those that are left are yet to count. A request has at least 64 bytes and at most two words.
+pub record CountingRequests (d : Bytes) (it : Series) (total : ℕ) : Type 0 where
+  pub low : total + bytes_left it ≤ length d
+  pub left : requests_taken (requests d) ≡ total + requests_taken (left it)
 
-pub counting-requests : (d : Bytes) → WellFormedFrom d series_at → CountingRequests d series_at 0
-counting-requests d w =
-    record { small = omega arith; low = omega arith; left = rw (← requests-start d) (omega arith); rest = w }
+pub counting-requests : {d : Bytes} {it : Series} → AllLeft d it → CountingRequests d it 0
+counting-requests a = record { low = omega (arith, a.bytes); left = let all = ap requests_taken a.all in omega (arith, all) }
 
-module _ {d : Bytes} {at : ℕ} {r : Found} (q : RequestAt d at r) {count : ℕ} (e : count ≡ words_of r.kind.0) where
-  count-is : count ≡ word_count q.kind
-  count-is = e ∙ ap words_of q.type ∙ named-words (number q.kind) q.kind (kind_of-number q.kind)
-
-  pub request-words-within : r.words_at + 32 * count ≤ length d
-  request-words-within = omega (arith, q.within, q.next_at, count-is)
-
-  pub counted-request : {total x : ℕ} → CountingRequests d at total → WordsTaken count (words count (drop r.words_at d)) x
-      → CountingRequests d r.next (total + x)
-  unfolding requests_taken capability_at
-  counted-request {total} {x} w c =
-      let this : x ≡ words_taken (words (word_count q.kind) (drop r.words_at d)) = rw (← count-is) c.is in
-      let next = ap requests_taken q.first in
-      record {
-        small = omega (arith, w.low, c.small, count-is, word_count-small q.kind, q.within, q.next_at, q.words_at);
-        low = omega (arith, w.low, c.small, count-is, word_count-small q.kind, q.next_at, q.words_at);
-        left = omega (arith, w.left, this, next);
-        rest = q.rest;
-      }
-
-pub counted-requests : {d : Bytes} {at total : ℕ} → CountingRequests d at total → length d ≤ at
-    → (total ≡ requests_taken (requests d)) × (total ≤ length d)
+pub counted-request : {d : Bytes} {it more : Series} {total x : ℕ} {r : Found} → CountingRequests d it total → FirstLeft it r more
+    → WordsTaken r.words.now x → CountingRequests d more (total + x)
 unfolding requests_taken
-counted-requests {d} {at} w h = (let none = ap requests_taken (requests-end d at h) in omega (arith, w.left, none), w.small)
-
--- The types, of which those before a number are counted.
-pub record CountingKinds (rs : List Request) (counts : List ℕ) (total n : ℕ) : Type 0 where
-  pub low : 3 ≤ n
-  pub high : n ≤ 8
-  pub small : total + 3 ≤ n
-  pub counted : counts ≡ requested_counts rs
-  pub left : kinds_taken rs kinds ≡ total + kinds_taken rs (drop (n - 3) kinds)
-
-pub counting-kinds : {rs : List Request} {counts : List ℕ} → counts ≡ requested_counts rs → CountingKinds rs counts 0 3
-counting-kinds e = record { low = omega arith; high = omega arith; small = omega arith; counted = e; left = omega arith }
-
-pub counted-kind : {rs : List Request} {counts : List ℕ} {total n r : ℕ} {zero : Bool} → CountingKinds rs counts total n → n < 8
-    → zero ≡ eqb (get_or counts n 0) 0 → (r ≡ taken_if zero) × (r ≤ 1) → CountingKinds rs counts (total + r) (n + 1)
-unfolding kinds_taken
-counted-kind {rs} {counts} {total} {n} w h z e =
-    let t = next n w.low (omega arith) in
-    let count : get_or counts n 0 ≡ length (requested_of t.kind rs) =
-    ap (λ (cs : List ℕ). get_or cs n 0) w.counted ∙ ap (λ (m : ℕ). get_or (requested_counts rs) m 0) (sym t.names) ∙ requested-at rs t.kind in
-    let this = taken_is (length (requested_of t.kind rs)) (z ∙ ap (λ (x : ℕ). eqb x 0) count) e.0 in
-    let more = ap (kinds_taken rs) t.here in
+counted-request {d} {it} {more} {total} {x} {r} w q c =
+    let count : length r.words.now / 32 ≡ word_count q.request.kind = omega (arith, q.size) in
+    let this : x ≡ words_taken q.request.capability =
+    c.is ∙ ap (λ (n : ℕ). words_taken (words n r.words.now)) count ∙ ap words_taken (sym q.capability) in
+    let next = ap requests_taken q.first in
     record {
-      low = omega (arith, w.low);
-      high = omega arith;
-      small = omega (arith, w.small, e.1);
-      counted = w.counted;
-      left = omega (arith, w.left, this, more);
+      low = omega (arith, w.low, c.small, count, word_count-small q.request.kind, q.bytes);
+      left = omega (arith, w.left, this, next);
     }
 
-pub counted-kinds : {rs : List Request} {counts : List ℕ} {total n : ℕ} → CountingKinds rs counts total n → 8 ≤ n
-    → (total ≡ kinds_taken rs kinds) × (total ≤ 5)
-unfolding kinds_taken
-counted-kinds {rs} {counts} {total} {n} w h =
-    let last : n ≡ 8 = omega (arith, w.high) in
-    let left : kinds_taken rs kinds ≡ total + 0 = rw last at w.left in
-    (omega arith, omega (arith, w.small, w.high))
+pub counted-requests : {d : Bytes} {it : Series} {total : ℕ} → CountingRequests d it total → left it ≡ []
+    → (total ≡ requests_taken (requests d)) × (total ≤ length d)
+unfolding requests_taken
+counted-requests w e = (let none = ap requests_taken e in omega (arith, w.left, none), omega (arith, w.low))
+
+-- how often a count of no capability is left out
+one-count : (v : ℕ) → (cond (not (eqb v 0)) 1 0 ≡ taken_by v) × (taken_by v ≤ 1)
+unfolding taken_by
+one-count v = go (eqb v 0) refl
+  where
+    go : (b : Bool) → eqb v 0 ≡ b → (cond (not (eqb v 0)) 1 0 ≡ taken_by v) × (taken_by v ≤ 1)
+    go true q = rw (q, taken_by) (refl, omega arith)
+    go false q = rw (q, taken_by) (refl, omega arith)
+
+-- no count stands where no type's number is, so those of the types that are not zero are all that are not
+pub counted-kinds : (rs : List Request) {counts : List ℕ} {r : ℕ} → counts ≡ requested_counts rs → r ≡ count_by (λ x. not (eqb x 0)) counts
+    → (r ≡ kinds_taken rs kinds) × (r ≤ 5)
+unfolding requested_counts kinds_taken
+counted-kinds rs e q =
+    let all = q ∙ ap (count_by (λ x. not (eqb x 0))) e in
+    let c = one-count (length (requested_of call rs)) in
+    let g = one-count (length (requested_of register rs)) in
+    let d = one-count (length (requested_of delete rs)) in
+    let s = one-count (length (requested_of set_entry rs)) in
+    let w = one-count (length (requested_of write rs)) in
+    (omega (arith, all, c.0, g.0, d.0, s.0, w.0), omega (arith, all, c.0, g.0, d.0, s.0, w.0, c.1, g.1, d.1, s.1, w.1))

@@ -1,6 +1,6 @@
 -- How many records the values of a registration take.
-use Rattle.std.specs.Prelude.{ℕ, ◌+◌, ◌≤◌, ◌≡◌, List, [], ◌∷◌, Bool, true, false, eqb, length}
-use Rattle.rules.specs.Words.{Bytes}
+use Rattle.std.specs.Prelude.{ℕ, ◌+◌, ◌/◌, ◌≤◌, ◌≡◌, List, [], ◌∷◌, Bool, true, false, eqb, length}
+use Rattle.rules.specs.Words.{Bytes, word_bytes, words}
 use Rattle.rules.specs.Table.{Record}
 use Rattle.rules.specs.Capabilities.{Kind, kinds}
 use Rattle.rules.specs.Messages.{Request, requests, requested_of}
@@ -32,10 +32,10 @@ unfoldable pub kinds_taken : List Request → List Kind → ℕ
 kinds_taken rs [] = 0
 kinds_taken rs (kind ∷ more) = taken_by (length (requested_of kind rs)) + kinds_taken rs more
 
--- r counts words that are not zero, n of them at most
-pub record WordsTaken (n : ℕ) (ws : List ℕ) (r : ℕ) : Type 0 where
-  pub is : r ≡ words_taken ws
-  pub small : r ≤ n
+-- r counts the words of bytes that are not zero
+pub record WordsTaken (bs : Bytes) (r : ℕ) : Type 0 where
+  pub is : r ≡ words_taken (words (length bs / word_bytes) bs)
+  pub small : r ≤ length bs / word_bytes
 
 -- r counts the records that are not zero, whichever procedure the capabilities are requested for
 pub record Needed (d : Bytes) (r : ℕ) : Type 0 where

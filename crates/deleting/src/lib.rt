@@ -8,7 +8,7 @@ ghost use Rattle.rules.specs.Answers.{◌then◌, outcome};
 ghost use Rattle.rules.specs.Calls.{delete_row, delete_effect};
 ghost use Rattle.results.specs.Results.{SoundWith, NamesKey, Gives};
 
-use rules::{Kind, Refusal, Reply};
+use rules::{Kind, Refusal, Reply, Success};
 
 // Whether the message names the entry key.
 fn names_entry(t: &[u8], used: usize, d: &[u8]) -> bool
@@ -36,18 +36,18 @@ pub fn delete(t: &mut [u8], used: usize, d: &[u8]) -> Reply
     ensures { Gives (outcome t.old (delete_row (store t.old) d.now then delete_effect (store t.old) d.now)) result t.new }
 {
     if !acting::permits(t, used, Kind::DELETE, d, messages::key_word(d)) {
-        return Reply::refused(Refusal::NOT_COVERED);
+        return Err(Refusal::NOT_COVERED);
     }
     if names_entry(t, used, d) {
-        return Reply::refused(Refusal::IS_ENTRY);
+        return Err(Refusal::IS_ENTRY);
     }
     let procedure = messages::key_of(d);
     if !acting::is_listed(t, used, procedure) {
-        return Reply::refused(Refusal::NOT_LISTED);
+        return Err(Refusal::NOT_LISTED);
     }
     if names_current(t, used, d) {
-        return Reply::refused(Refusal::IS_CURRENT);
+        return Err(Refusal::IS_CURRENT);
     }
     unlisting::unlist(t, used, procedure);
-    Reply::done()
+    Ok(Success::Done)
 }

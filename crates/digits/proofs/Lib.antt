@@ -1,4 +1,3 @@
-pub mod Choices
 pub mod Values
 pub mod Messages
 pub mod Turns

@@ -1,10 +1,8 @@
 -- What `decode` says of a line, and what the buffer holds after.
-use Rattle.std.specs.Prelude.{ℕ, ◌+◌, ◌*◌, ◌/◌, ◌%◌, ◌≡◌, [], ◌∷◌, ◌++◌, true, false, ◌&&◌, eqb, leb, length, take, drop}
-use Rattle.std.proofs.Math.Option.{Option, none, some}
+use Rattle.std.specs.Prelude.{ℕ, ◌+◌, ◌*◌, ◌/◌, ◌%◌, ◌≡◌, [], ◌∷◌, ◌++◌, true, false, ◌&&◌, eqb, leb, length, take, drop, Option, Some, None}
+use Rattle.std.proofs.Math.Option.{Option as Maybe, none, some}
 use Rattle.rules.specs.Words.{Bytes}
 use Rattle.rules.specs.Program.{digit_of, greatest_line, message_of}
-use Rattle.digits.specs.declared.Line.{Line}
-use Rattle.digits.specs.declared.Line.TheVariants.{Message, Other}
 
 -- the value of a digit, and 16 of a character that is none
 unfoldable pub value_of : (character : ℕ) → ℕ
@@ -29,10 +27,10 @@ others [] = 0
 others (h ∷ []) = 0
 others (h ∷ l ∷ rest) = others_of (value_of h) (value_of l) + others rest
 
--- what is said of a line that has this message, or none
-unfoldable pub said : Option Bytes → Line
-said none = Other
-said (some m) = Message (length m)
+-- what is said of a line that has this message, or none: the number of its bytes
+unfoldable pub said : Maybe Bytes → Option ℕ
+said none = None
+said (some m) = Some (length m)
 
 -- The buffer after: a line that is not too long and has an even number of characters is decoded to its front, and the rest is as it was.
 unfoldable pub filled : (line before : Bytes) → Bytes
@@ -43,7 +41,7 @@ filled line before =
     ]
 
 -- The promise: the line's message, if it has one, is at the buffer's front; and every byte of the buffer.
-pub record Decodes (line before : Bytes) (r : Line) (after : Bytes) : Type 0 where
+pub record Decodes (line before : Bytes) (r : Option ℕ) (after : Bytes) : Type 0 where
   pub told : r ≡ said (message_of line)
   pub message : (m : Bytes) → message_of line ≡ some m → take (length m) after ≡ m
   pub buffer : after ≡ filled line before

@@ -1,6 +1,6 @@
 #![tactic(auto)]
 // Lines of lower-case hex: a line's digits into the bytes of its message.
-ghost use Rattle.std.specs.Prelude.{◌≡◌, ◌*◌, ◌≤◌, ◌++◌, length, drop};
+ghost use Rattle.std.specs.Prelude.{◌≡◌, ◌*◌, ◌≤◌, length};
 ghost use Rattle.rules.specs.Program.{greatest_line};
 ghost use Rattle.digits.specs.Decoding.{value_of, byte_of, others_of, pairs, others, Decodes};
 
@@ -10,28 +10,16 @@ pub const GREATEST_LINE: usize = 4096;
 // The bytes of its message.
 pub const GREATEST_MESSAGE: usize = GREATEST_LINE / 2;
 
-// What a line is: a message of so many bytes, or another line.
-#[derive(Clone, Copy)]
-pub enum Line {
-    Message(usize),
-    Other,
-}
-
 // The value of a digit, and 16 of a character that is none.
+#[tactic(auto, unfolding(crate::specs::Decoding::value_of, rules::specs::Program::digit_of))]
 fn value(character: u8) -> u8
     ensures value { result ≡ value_of character }
     ensures upper_bound { result ≤ 16 }
 {
-    if character < b'0' {
-        16
-    } else if character <= b'9' {
-        character - b'0'
-    } else if character < b'a' {
-        16
-    } else if character <= b'f' {
-        character - (b'a' - 10)
-    } else {
-        16
+    match character {
+        b'0'..=b'9' => character - b'0',
+        b'a'..=b'f' => character - b'a' + 10,
+        _ => 16,
     }
 }
 
@@ -48,44 +36,37 @@ fn others_of(high: u8, low: u8) -> u16
     ensures value { result ≡ others_of high low }
     ensures upper_bound { result ≤ 2 }
 {
-    (high / 16 + low / 16) as u16
+    u16::from(high / 16 + low / 16)
 }
 
-// The bytes of a line at the front of `to`, and how many characters are no digits. Without an exit the loop takes many characters
-// at a time.
-fn decode_pairs(line: &[u8], to: &mut [u8], n: usize) -> u16
-    requires line_len { (length line.now ≡ 2 * n) × (length line.now ≤ greatest_line) }
-    requires n_in_bounds { n ≤ length to.old }
+// The bytes of a line, and how many characters are no digits. The loop has no exit, so that it takes many characters at a time: with
+// values as `Option<u8>` and an exit by `?` it takes twice as long. The digits go by index: the prover knows nothing of what is written
+// through a `zip` with `iter_mut`.
+fn decode_pairs(line: &[u8], to: &mut [u8]) -> u16
+    requires line_len { (length line.now ≡ 2 * length to.old) × (length line.now ≤ greatest_line) }
     ensures value { result ≡ others line.now }
-    ensures to_after { to.new ≡ pairs line.now ++ drop n to.old }
+    ensures to_after { to.new ≡ pairs line.now }
 {
-    let mut wrong: u16 = 0;
-    let mut i = 0;
-    while i < n {
+    let mut wrong = 0;
+    for (i, byte) in to.iter_mut().enumerate() {
         let high = value(line[2 * i]);
         let low = value(line[2 * i + 1]);
-        to[i] = byte_of(high, low);
+        *byte = byte_of(high, low);
         wrong += others_of(high, low);
-        i += 1;
     }
     wrong
 }
 
-// Decodes a line into the front of `to`.
-pub fn decode(line: &[u8], to: &mut [u8]) -> Line
+// Decodes a line into the front of `to`: how many bytes its message has, or `None` of a line that is no message.
+#[tactic(auto, using(crate::proofs::Messages::all_pairs))]
+pub fn decode(line: &[u8], to: &mut [u8]) -> Option<usize>
     requires { greatest_line ≤ 2 * length to.old }
     ensures { Decodes line.now to.old result to.new }
 {
-    if GREATEST_LINE < line.len() {
-        return Line::Other;
-    }
-    if line.len() % 2 != 0 {
-        return Line::Other;
+    if GREATEST_LINE < line.len() || line.len() % 2 != 0 {
+        return None;
     }
     let n = line.len() / 2;
-    if decode_pairs(line, to, n) == 0 {
-        Line::Message(n)
-    } else {
-        Line::Other
-    }
+    let wrong = decode_pairs(line, &mut to[..n]);
+    (wrong == 0).then_some(n)
 }

@@ -1,45 +1,37 @@
--- Where a line ends is looked for from its beginning on: bytes that are no line feed are passed one by one.
-use Rattle.std.proofs.Common.{◌≡◌, ℕ, suc, ◌+◌, ◌<◌, ◌≤◌, Bool, true, false, eqb, length, get_or, drop, refl, sym, ap, ◌∙◌, arith}
-use Rattle.std.proofs.Math.Seq.{drop-cons, drop-length}
+-- Where a line ends: the first line feed's place is `index_of`, and with none that is the number of the bytes.
+use Rattle.std.proofs.Common.{◌≡◌, ℕ, ◌+◌, ◌-◌, ◌<◌, ◌≤◌, ◌==◌, Some, None, [], ◌∷◌, length, take, drop, position, length-drop, refl, arith}
+use Rattle.std.proofs.Math.Seq.{take_all}
+use Rattle.std.specs.List.{position_or_len}
 use Rattle.rules.specs.Words.{Bytes}
+use Rattle.rules.specs.Program.{line_feed}
 use Rattle.feeding.specs.Feeding.{index_after, index_of}
 
--- what is known at the i-th byte of the bytes: none from `at` on was the byte that is looked for
-pub record Passed (byte : ℕ) (bs : Bytes) (at i : ℕ) : Type 0 where
-  pub from : at ≤ i
-  pub within : i ≤ length bs
-  pub same : at + index_of byte (drop at bs) ≡ i + index_of byte (drop i bs)
+index-first : (bs : Bytes) → position_or_len (λ b. b == line_feed) bs ≡ index_of line_feed bs
+unfolding index_of index_after
+index-first [] = refl
+index-first (b ∷ bs) = let more = index-first bs in grind arith
 
-pub passed-none : (byte : ℕ) (bs : Bytes) (at : ℕ) → at ≤ length bs → Passed byte bs at at
-passed-none byte bs at h = record { from = omega arith; within = h; same = refl }
+index-most : (bs : Bytes) → index_of line_feed bs ≤ length bs
+unfolding index_of index_after
+index-most [] = omega arith
+index-most (b ∷ bs) = let more = index-most bs in grind arith
 
-module _ {byte : ℕ} {bs : Bytes} {at i : ℕ} (p : Passed byte bs at i) where
-  -- the i-th byte is the first of those that are left
-  first : i < length bs → (b : Bool) → eqb (get_or bs i 0) byte ≡ b
-      → index_of byte (drop i bs) ≡ index_after b (index_of byte (drop (suc i) bs))
-  unfolding index_of
-  first h b e =
-      ap (λ (l : Bytes). index_of byte l) (drop-cons bs i 0 h)
-      ∙ ap (λ (t : Bool). index_after t (index_of byte (drop (suc i) bs))) e
+-- what the search for one from `at` on answers
+module _ (bs : Bytes) (at : ℕ) where
+  all-left : take (length bs - at) (drop at bs) ≡ drop at bs
+  all-left = take_all (length bs - at) (drop at bs) (omega (arith, length-drop at bs))
 
-  pub passed-more : i < length bs → eqb (get_or bs i 0) byte ≡ false → Passed byte bs at (i + 1)
-  unfolding index_after
-  passed-more h other =
-      let to : suc i ≡ i + 1 = omega arith in
-      let next : index_of byte (drop i bs) ≡ suc (index_of byte (drop (i + 1) bs)) =
-      first h false other ∙ ap (λ (n : ℕ). suc (index_of byte (drop n bs))) to in
-      record { from = omega (arith, p.from); within = omega arith; same = omega (arith, p.same, next) }
+  pub index-some : (n : ℕ) → position (λ b. b == line_feed) (take (length bs - at) (drop at bs)) ≡ Some n
+      → (n ≡ index_of line_feed (drop at bs)) × (n + at < length bs)
+  index-some n e =
+      let found : position (λ b. b == line_feed) (drop at bs) ≡ Some n = rw all-left at e in
+      let first = index-first (drop at bs) in
+      let long = length-drop at bs in
+      grind arith
 
-  pub passed-here : i < length bs → eqb (get_or bs i 0) byte ≡ true → i ≡ at + index_of byte (drop at bs)
-  unfolding index_after
-  passed-here h this =
-      let none : index_of byte (drop i bs) ≡ 0 = first h true this in
-      omega (arith, p.same, none)
-
-  pub passed-all : length bs ≤ i → i ≡ at + index_of byte (drop at bs)
-  unfolding index_of
-  passed-all h =
-      let end : i ≡ length bs = omega (arith, p.within) in
-      let none : index_of byte (drop i bs) ≡ 0 =
-      ap (λ (n : ℕ). index_of byte (drop n bs)) end ∙ ap (λ (l : Bytes). index_of byte l) (drop-length bs) in
-      omega (arith, p.same, none)
+  pub index-none : position (λ b. b == line_feed) (take (length bs - at) (drop at bs)) ≡ None → index_of line_feed (drop at bs) ≡ length (drop at bs)
+  index-none e =
+      let found : position (λ b. b == line_feed) (drop at bs) ≡ None = rw all-left at e in
+      let first = index-first (drop at bs) in
+      let most = index-most (drop at bs) in
+      grind arith

@@ -1,19 +1,14 @@
 -- In whatever way the input is cut, a run prints what the rules print for the whole of it. What is still to be printed at a place is
 -- `rest`: the answers of the lines of what is left, behind the beginning of a line that was dropped for its length. Each part of a turn
 -- moves answers from `rest` to what has been printed, and leaves both together the same.
-use Prim.Native.Nat.{ℕ, zero, suc, ◌≤◌, ◌<◌}
-use native.Mathlib.Omega.{arith}
-use mathlib.Core.Path.{◌≡◌, refl, sym, ap, ◌∙◌}
-use mathlib.Core.List.{List, [], ◌∷◌, ◌++◌, append_assoc, append-nil}
-use mathlib.Core.Bool.{Bool, true, false, true≢false, not, ◌&&◌, ◌||◌}
-use mathlib.Core.Option.{none}
-use borrow.Author.Tests.{lt-leb, le-ltb, ltb-true, ltb-false}
-use lib.Dec.{eqb, leb, ltb}
-use lib.ListN.{length, take, drop, replicate, length-append, length-drop, length-replicate}
+use Rattle.std.proofs.Common.{ℕ, zero, suc, ◌≤◌, ◌<◌, arith, ◌≡◌, refl, sym, ap, ◌∙◌, List, [], ◌∷◌, ◌++◌, append_assoc, append-nil, Bool, true, false, true≢false, ◌&&◌, ◌||◌, le-ltb, ltb-true, ltb-false, eqb, leb, ltb, length, take, drop, replicate, length-append, length-drop}
+use Rattle.std.proofs.Math.Option.{none}
+use borrow.Author.Tests.{lt-leb}
+use Rattle.std.proofs.Math.ListN.{length-replicate}
 use Rattle.rules.specs.Words.{Bytes}
 use Rattle.rules.specs.Program.{line_feed, greatest_line, last_line, lines_from, lines, message_of, program_table, answers_from, program}
-use Rattle.laws.proofs.Bools.{and_right}
-use Rattle.digits.proofs.Choices.{if-true, if-false, and-no-second}
+use Rattle.std.proofs.lemmas.Bool.{and_parts, and_right}
+use Rattle.feeding.proofs.Choices.{if-true, if-false}
 use Rattle.answering.specs.Answering.{answer_of}
 use Rattle.answering.proofs.Steps.{answers-step}
 use Rattle.feeding.specs.Feeding.{index_after, index_of, Between, message_left, next, has_room, has_line, answering, keeping, answered, fed, finished, turn, run, joined, ran, written}
@@ -23,10 +18,11 @@ unfolding finished
 finished-empty t [] e = refl
 finished-empty t (b ∷ bs) e = absurd (omega arith)
 
-pub finished-line : (t line : Bytes) → (length line ≡ 0 → ⊥) → finished t false line ≡ answer_of t (message_of line)
-unfolding finished
-finished-line t [] n = absurd (n refl)
-finished-line t (b ∷ bs) n = refl
+pub finished-left : (t line : Bytes) (long : Bool) → (long ≡ false → length line ≡ 0 → ⊥) → finished t long line ≡ answer_of t (message_left long line)
+unfolding finished message_left
+finished-left t line true n = refl
+finished-left t [] false n = absurd (n refl refl)
+finished-left t (b ∷ bs) false n = refl
 
 -- a byte that is a line feed, and one that is not
 module _ (b : ℕ) (rest : Bytes) where
@@ -183,14 +179,14 @@ answering-whole room (suc n) b p q more d e =
         → (Dropped (answering room n (next b)).long q → whole (next b) [] more ≡ whole (answering room n (next b)) q more)
         → Dropped (elim t as (λ x. Between) [ true ↦ answering room n (next b) | false ↦ b ]).long q
         → whole b p more ≡ whole (elim t [ true ↦ answering room n (next b) | false ↦ b ]) q more
-    go true t again e = next-whole b p more d (and_right (has_room room b) _ t) ∙ again e
+    go true t again e = next-whole b p more d (and_parts (has_room room b) _ t).1 ∙ again e
     go false t again e = same-dropped b p q more d e
 
 -- which leaves no room or no whole line
 answering-ends : (room n : ℕ) (b : Between) → length b.left ≤ n
     → (has_room room (answering room n b) && has_line (answering room n b)) ≡ false
 unfolding answering
-answering-ends room zero b h = and-no-second (has_room room b) _ (empty-none b (omega arith))
+answering-ends room zero b h = and_right (has_room room b) _ (empty-none b (omega arith))
 answering-ends room (suc n) b h = go (has_room room b && has_line b) refl (answering-ends room n (next b) (next-shorter b n h))
   where
     go : (t : Bool) → (has_room room b && has_line b) ≡ t

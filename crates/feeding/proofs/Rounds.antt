@@ -1,18 +1,13 @@
 -- The loop over a piece: what has been answered so far is where `answering` stands, and what is left of its steps suffices. Each turn is
 -- its next step; it ends where there is no room or no whole line.
-use Prim.Native.Nat.{ℕ, zero, suc, ◌+◌, ◌-◌, ◌≤◌, ◌<◌}
-use native.Mathlib.Omega.{arith}
-use mathlib.Core.Path.{◌≡◌, refl, sym, ap, ◌∙◌}
-use mathlib.Core.List.{[]}
-use mathlib.Core.Bool.{Bool, true, false, not, true≢false, ◌&&◌, ◌||◌}
-use borrow.Author.Tests.{le-leb, lt-leb, lt-ltb, le-ltb, ltb-false}
-use lib.Dec.{ltb}
-use lib.ListN.{length, take, drop, length-drop}
-use lib.Seq.{length-take-le, drop-drop, take_all, drop-length}
+use Rattle.std.proofs.Common.{ℕ, zero, suc, ◌+◌, ◌-◌, ◌≤◌, ◌<◌, arith, ◌≡◌, refl, sym, ap, ◌∙◌, [], Bool, true, false, true≢false, ◌&&◌, ◌||◌, le-leb, lt-ltb, le-ltb, ltb-false, ltb, length, take, drop, length-drop, length-take-le, drop-drop}
+use borrow.Author.Tests.{lt-leb}
+use Rattle.std.proofs.Math.Seq.{drop-length}
 use Rattle.rules.specs.Words.{Bytes}
 use Rattle.rules.specs.Program.{line_feed, greatest_line}
-use Rattle.laws.proofs.Bools.{and_both, or_left, or_right, or-first, or-second}
-use Rattle.digits.proofs.Choices.{if-true, if-false, and-no-first, and-no-second}
+use Rattle.laws.proofs.Bools.{and_both, or_left, or_right}
+use Rattle.std.proofs.lemmas.Bool.{and_left, and_right}
+use Rattle.feeding.proofs.Choices.{if-true, if-false}
 use Rattle.writing.specs.Wrote.{Wrote}
 use Rattle.writing.proofs.Texts.{wrote_none, wrote-both}
 use Rattle.answering.specs.Answering.{Answered, answer_of, Answers, answer_room}
@@ -91,9 +86,9 @@ module _ {t₀ piece out₀ t out : Bytes} {long begun : Bool} {at used : ℕ} (
   unfolding has_line here
   line-is end e h = lt-ltb (index_of line_feed (drop at piece)) (length (drop at piece)) (omega (arith, length-drop at piece, f.within))
 
-  line-not : (end : ℕ) → end ≡ at + index_of line_feed (drop at piece) → length piece ≤ end → has_line here ≡ false
+  line-not : index_of line_feed (drop at piece) ≡ length (drop at piece) → has_line here ≡ false
   unfolding has_line here
-  line-not end e h = le-ltb (index_of line_feed (drop at piece)) (length (drop at piece)) (omega (arith, length-drop at piece, f.within))
+  line-not e = le-ltb (index_of line_feed (drop at piece)) (length (drop at piece)) (omega arith)
 
   pub feeding-more : {t' out' : Bytes} {used' : ℕ} (end : ℕ) → answer_room ≤ length out - used
       → end ≡ at + index_of line_feed (drop at piece) → end < length piece → length out' ≡ length out → length t' ≡ length t
@@ -125,7 +120,7 @@ module _ {t₀ piece out₀ t out : Bytes} {long begun : Bool} {at used : ℕ} (
   feeding-full r =
       let none : has_room (length out₀) here ≡ false = room-not r in
       let all : answered (length out₀) t₀ long piece ≡ here =
-      f.same ∙ stop (length out₀) f.steps here (and-no-first (has_room (length out₀) here) _ none) in
+      f.same ∙ stop (length out₀) f.steps here (and_left (has_room (length out₀) here) _ none) in
       let is : fed (length out₀) t₀ long piece ≡ here = fed-full (length out₀) t₀ long piece here all none in
       record {
         wrote = rw is f.wrote;
@@ -137,10 +132,10 @@ module _ {t₀ piece out₀ t out : Bytes} {long begun : Bool} {at used : ℕ} (
         short = λ z. absurd (true≢false z);
       }
 
-  pub feeding-kept : (end : ℕ) → answer_room ≤ length out - used → end ≡ at + index_of line_feed (drop at piece)
-      → end ≡ length piece → (r : Fed) → r ≡ kept (length piece) at begun used → Feeds t₀ long piece out₀ r out t
+  pub feeding-kept : answer_room ≤ length out - used → index_of line_feed (drop at piece) ≡ length (drop at piece)
+      → (r : Fed) → r ≡ kept (length piece) at begun used → Feeds t₀ long piece out₀ r out t
   unfolding here kept keeping
-  feeding-kept end h e n r q = go (begun || ltb greatest_line (length piece - at)) refl
+  feeding-kept h e r q = go (begun || ltb greatest_line (length piece - at)) refl
     where
       some-room : has_room (length out₀) here ≡ true
       some-room = room-is h
@@ -149,7 +144,7 @@ module _ {t₀ piece out₀ t out : Bytes} {long begun : Bool} {at used : ℕ} (
       all =
           f.same
           ∙ stop (length out₀) f.steps here
-          (and-no-second (has_room (length out₀) here) _ (line-not end e (omega arith)))
+          (and_right (has_room (length out₀) here) _ (line-not e))
 
       is : fed (length out₀) t₀ long piece ≡ keeping here
       is = fed-kept (length out₀) t₀ long piece here all some-room
@@ -189,17 +184,3 @@ module _ {t₀ piece out₀ t out : Bytes} {long begun : Bool} {at used : ℕ} (
             full = rw (all, some-room) refl;
             short = λ z. omega arith;
           })
-
--- what is kept of a line that is not finished
-module _ (n at used : ℕ) (long : Bool) where
-  pub kept-long : long ≡ true → record { taken = n; long = true; used = used; full = false } ≡ kept n at long used
-  unfolding kept
-  kept-long e = sym (if-true (long || ltb greatest_line (n - at)) _ _ (or-first long _ e))
-
-  pub kept-longer : greatest_line < n - at → record { taken = n; long = true; used = used; full = false } ≡ kept n at long used
-  unfolding kept
-  kept-longer h = sym (if-true (long || ltb greatest_line (n - at)) _ _ (or-second long _ (lt-ltb greatest_line (n - at) h)))
-
-  pub kept-short : long ≡ false → n - at ≤ greatest_line → record { taken = at; long = false; used = used; full = false } ≡ kept n at long used
-  unfolding kept
-  kept-short e h = sym (if-false (long || ltb greatest_line (n - at)) _ _ (rw e (le-ltb greatest_line (n - at) h)))

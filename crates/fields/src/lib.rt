@@ -19,10 +19,7 @@ const WRITE_ADDRESS_AT: usize = rules::WORD_BYTES;
 
 const WRITE_VALUE_AT: usize = 2 * rules::WORD_BYTES;
 
-// The bytes of a word before a key, and before an address.
-const KEY_LEADING: usize = rules::WORD_BYTES - rules::KEY_BYTES;
-
-const ADDRESS_LEADING: usize = rules::WORD_BYTES - rules::ADDRESS_BYTES;
+// Each word of the documents has a reader of its name; they differ in the offset alone.
 
 // The first word of every message's data: the capability index.
 pub fn index(d: &[u8]) -> &[u8]
@@ -77,21 +74,14 @@ pub fn leading(kind: Kind, d: &[u8]) -> bool
     requires { minimum_of kind.0 ≤ length d.now }
     ensures { OfType kind.0 (λ k. result ≡ leading_bytes k d.now) }
 {
-    let number = kind.0;
-    // The types from Call to Set Entry have a key word.
-    if number < Kind::CALL.0 {
-        return false;
+    match kind {
+        Kind::CALL | Kind::DELETE | Kind::SET_ENTRY => leading_at(d, KEY_AT, key_words::KEY_AT),
+        Kind::REGISTER => {
+            leading_at(d, KEY_AT, key_words::KEY_AT)
+                || leading_at(d, ADDRESS_AT, key_words::ADDRESS_AT)
+        }
+        _ => false,
     }
-    if Kind::SET_ENTRY.0 < number {
-        return false;
-    }
-    if leading_at(d, KEY_AT, KEY_LEADING) {
-        return true;
-    }
-    if number == Kind::REGISTER.0 {
-        return leading_at(d, ADDRESS_AT, ADDRESS_LEADING);
-    }
-    false
 }
 
 // The key of a key word with no leading bytes.
@@ -99,5 +89,5 @@ pub fn key_of(d: &[u8]) -> &[u8]
     requires { (2 * word_bytes ≤ length d.now) × (key_too_long d.now ≡ false) }
     ensures { Holds key_bytes result.now (key_word d.now) }
 {
-    &d[KEY_AT + KEY_LEADING..KEY_AT + rules::WORD_BYTES]
+    key_words::key_part(key_word(d))
 }

@@ -1,3 +1,4 @@
 pub mod Places
 pub mod Finding
 pub mod Near
+pub mod Chunks

@@ -1,19 +1,11 @@
 -- What a guess of a key's place tells. A record that has the key stands at its place; otherwise the record before the guess tells
 -- whether the place lies from there on, and the record at the guess whether it lies further on.
-use Prim.Native.Nat.{ℕ, suc, ◌+◌, ◌*◌, ◌-◌, ◌≤◌, ◌<◌}
-use native.Mathlib.Omega.{arith}
-use mathlib.Core.Path.{◌≡◌, refl, sym, subst}
-use mathlib.Core.Bool.{Bool, true, false}
-use lib.Dec.{eqb, leb, ltb}
-use lib.ListN.{length, drop}
-use borrow.Author.Tests.{eqb-true, eq-eqb, ne_eqb, ltb-true, ltb-false, leb-true, leb-false, lt-ltb, le-ltb}
+use Rattle.std.proofs.Common.{ℕ, suc, ◌*◌, ◌-◌, ◌≤◌, ◌<◌, arith, ◌≡◌, refl, sym, subst, Bool, true, false, eqb, leb, ltb, length, drop, eqb-true, eq-eqb, ne_eqb, ltb-true, ltb-false, leb-true, leb-false, lt-ltb, le-ltb, Ok, Err}
 use Rattle.rules.specs.Words.{Bytes, word_at}
 use Rattle.rules.specs.Table.{store, Ascending, record_form}
 use Rattle.laws.proofs.Bools.{and_left, and_right}
-use Rattle.laws.proofs.Tests.{same_test}
 use Rattle.laws.proofs.TableRecords.{record-at, formed}
 use Rattle.finding.specs.Finding.{keys_below, place_of, has_key}
-use Rattle.finding.specs.declared.Place.TheVariants.{Has, Gap}
 use Rattle.finding.proofs.Places.{below_length, ascending-drop, place_after, place-before}
 use Rattle.finding.proofs.Finding.{find-has, find-gap}
 
@@ -21,13 +13,6 @@ abbrev place : Bytes → (k : ℕ) → ℕ
 place t k = keys_below (store t) k
 
 module _ (t : Bytes) (k i : ℕ) where
-  -- the record's test, where there is one and where not
-  pub has-inside : i < length (store t) → has_key t i k ≡ eqb (word_at t (64 * i)) k
-  has-inside h = rw (lt-ltb i (length (store t)) h)
-
-  pub has-outside : length (store t) ≤ i → has_key t i k ≡ false
-  has-outside h = rw (le-ltb i (length (store t)) h)
-
   -- whether i is the place, by whether the place lies before i and before i + 1
   pub place-not-past : length (store t) < i → false ≡ eqb (place t k) i
   place-not-past h = sym (ne_eqb (place t k) i (λ e. omega (arith, below_length (store t) k)))
@@ -37,15 +22,6 @@ module _ (t : Bytes) (k i : ℕ) where
 
   pub place-at-end : ltb (place t k) i ≡ false → i ≡ length (store t) → true ≡ eqb (place t k) i
   place-at-end b e = sym (eq-eqb (place t k) i (omega (arith, ltb-false (place t k) i b, below_length (store t) k)))
-
-  pub place-by-next : ltb (place t k) i ≡ false → ltb (place t k) (i + 1) ≡ eqb (place t k) i
-  place-by-next b =
-      same_test _ _
-      (λ l. eq-eqb (place t k) i (omega (arith, from, ltb-true (place t k) (i + 1) l)))
-      (λ e. lt-ltb (place t k) (i + 1) (omega (arith, eqb-true (place t k) i e)))
-    where
-      from : i ≤ place t k
-      from = ltb-false (place t k) i b
 
 module _ (t : Bytes) (k i : ℕ) (q : record_form t ≡ true) where
   pub before-none : i ≡ 0 → false ≡ ltb (place t k) i
@@ -87,8 +63,8 @@ module _ (t : Bytes) (k i : ℕ) (q : record_form t ≡ true) where
           omega (arith, behind, to)
       go false l = omega (arith, to, leb-false 1 i l)
 
-  pub near-has : has_key t i k ≡ true → Has i ≡ place_of (store t) k
+  pub near-has : has_key t i k ≡ true → Ok i ≡ place_of (store t) k
   near-has e = find-has t k i q (has-place e) e
 
-  pub near-gap : has_key t i k ≡ false → eqb (place t k) i ≡ true → Gap i ≡ place_of (store t) k
+  pub near-gap : has_key t i k ≡ false → eqb (place t k) i ≡ true → Err i ≡ place_of (store t) k
   near-gap d e = find-gap t k i q (sym (eqb-true (place t k) i e)) d

@@ -1,22 +1,12 @@
 -- Where a key stands in an ascending store, and what `get` and `put` do there.
 -- All records before the place have lower keys, so both walk past them; from the place on no key is lower.
-use Prim.Native.Nat.{ℕ, zero, suc, ◌+◌, ◌≤◌, ◌<◌}
-use native.Mathlib.Omega.{arith}
-use native.Mathlib.Numerals.{add-one}
-use mathlib.Core.Path.{◌≡◌, refl, sym, ap, ◌∙◌}
-use mathlib.Core.List.{[], ◌∷◌, ◌++◌}
-use mathlib.Core.Bool.{Bool, true, false}
-use lib.Dec.{ltb}
-use lib.ListN.{length, take, drop, length-drop}
-use lib.Seq.{drop-drop}
-use borrow.Author.Tests.{eq-eqb, lt-ltb, le-ltb, ltb-true, ltb-false}
+use Rattle.std.proofs.Common.{ℕ, zero, suc, ◌+◌, ◌≤◌, ◌<◌, arith, add-one, ◌≡◌, refl, sym, ap, ◌∙◌, [], ◌∷◌, ◌++◌, Bool, true, false, ltb, length, take, drop, length-drop, drop-drop, eq-eqb, lt-ltb, le-ltb, ltb-true, ltb-false, Ok, Err}
 use Rattle.rules.specs.Words.{Every}
 use Rattle.rules.specs.Table.{Record, ◌holds◌, Store, get, record_before, put, Ascending}
 use Rattle.laws.proofs.Numbers.{Order, less, equal, more, order}
 use Rattle.laws.proofs.Lists.{every_map}
 use Rattle.laws.proofs.Stores.{get-here, get-past, get-below, put_first, ascending-lower, put-after}
 use Rattle.finding.specs.Finding.{keys_below, place_of}
-use Rattle.finding.specs.declared.Place.TheVariants.{Has, Gap}
 
 -- a record's key is below k, or not
 pub below_or_not : {P : Type 0} (r : Record) (k : ℕ) → (r.key < k → P) → (k ≤ r.key → P) → P
@@ -177,15 +167,15 @@ standing s k a = go (drop at s) refl (ascending-from 0 s k a)
         by (more l) = absurd (omega (arith, h.0))
 
 -- the answer of `find`
-pub place-has : {s : Store} {k i : ℕ} → Present s k i → place_of s k ≡ Has i
+pub place-has : {s : Store} {k i : ℕ} → Present s k i → place_of s k ≡ Ok i
 unfolding place_of
 place-has {s} {k} {i} p = go (get s k) refl
   where
-    go : (v : ℕ) → get s k ≡ v → place_of s k ≡ Has i
+    go : (v : ℕ) → get s k ≡ v → place_of s k ≡ Ok i
     go zero q = absurd (omega (arith, p.some))
     go (suc v) q = rw (q, place_of) (rw p.place)
 
-pub place-gap : {s : Store} {k i : ℕ} → Absent s k i → place_of s k ≡ Gap i
+pub place-gap : {s : Store} {k i : ℕ} → Absent s k i → place_of s k ≡ Err i
 unfolding place_of
 place-gap p = rw (p.none, place_of) (rw p.place)
 

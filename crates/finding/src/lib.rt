@@ -5,13 +5,6 @@ ghost use Rattle.rules.specs.Words.{word_bytes, num};
 ghost use Rattle.rules.specs.Table.{store, record_form};
 ghost use Rattle.finding.specs.Finding.{keys_below, place_of, has_key};
 
-// Where a key's record stands, or where it would.
-#[derive(Clone, Copy)]
-pub enum Place {
-    Has(usize),
-    Gap(usize),
-}
-
 // How many records have a key below the given one.
 pub fn keys_below(t: &[u8], used: usize, key: &[u8]) -> usize
     requires t_value { record_form t.now ≡ true }
@@ -19,17 +12,8 @@ pub fn keys_below(t: &[u8], used: usize, key: &[u8]) -> usize
     requires key_len { length key.now ≡ word_bytes }
     ensures { result ≡ keys_below (store t.now) (num key.now) }
 {
-    let mut low = 0;
-    let mut high = used;
-    while low < high {
-        let middle = low + (high - low) / 2;
-        if words::below(moves::word_at(t, rules::RECORD_SIZE * middle), key) {
-            low = middle + 1;
-        } else {
-            high = middle;
-        }
-    }
-    low
+    let (records, _) = t.as_chunks::<{ rules::RECORD_SIZE }>();
+    records[..used].partition_point(|record| words::below(&record[..rules::WORD_BYTES], key))
 }
 
 // Whether the i-th record is occupied and has a key.
@@ -39,15 +23,11 @@ fn has_key(t: &[u8], used: usize, i: usize, key: &[u8]) -> bool
     requires key_len { length key.now ≡ word_bytes }
     ensures { result ≡ has_key t.now i (num key.now) }
 {
-    if i < used {
-        words::same(moves::word_at(t, rules::RECORD_SIZE * i), key)
-    } else {
-        false
-    }
+    i < used && words::same(moves::word_at(t, rules::RECORD_SIZE * i), key)
 }
 
-// Where a key's record stands, or where it would.
-pub fn find(t: &[u8], used: usize, key: &[u8]) -> Place
+// The index of a key's record, or the one that it would have.
+pub fn find(t: &[u8], used: usize, key: &[u8]) -> Result<usize, usize>
     requires t_value { record_form t.now ≡ true }
     requires used_value { used ≡ length (store t.now) }
     requires key_len { length key.now ≡ word_bytes }
@@ -55,9 +35,9 @@ pub fn find(t: &[u8], used: usize, key: &[u8]) -> Place
 {
     let i = keys_below(t, used, key);
     if has_key(t, used, i, key) {
-        Place::Has(i)
+        Ok(i)
     } else {
-        Place::Gap(i)
+        Err(i)
     }
 }
 
@@ -68,10 +48,7 @@ fn stands_before(t: &[u8], used: usize, i: usize, key: &[u8]) -> bool
     requires key_len { length key.now ≡ word_bytes }
     ensures { result ≡ ltb (keys_below (store t.now) (num key.now)) i }
 {
-    if i == 0 {
-        return false;
-    }
-    words::at_most(key, moves::word_at(t, rules::RECORD_SIZE * (i - 1)))
+    i != 0 && words::at_most(key, moves::word_at(t, rules::RECORD_SIZE * (i - 1)))
 }
 
 // Whether i is a key's place: the records before i and at i decide.
@@ -81,30 +58,23 @@ fn is_place(t: &[u8], used: usize, i: usize, key: &[u8]) -> bool
     requires key_len { length key.now ≡ word_bytes }
     ensures { result ≡ eqb (keys_below (store t.now) (num key.now)) i }
 {
-    if used < i {
-        return false;
-    }
-    if stands_before(t, used, i, key) {
-        return false;
-    }
-    if i == used {
-        return true;
-    }
-    stands_before(t, used, i + 1, key)
+    i <= used
+        && !stands_before(t, used, i, key)
+        && (i == used || stands_before(t, used, i + 1, key))
 }
 
 // The same as `find`, whatever the guess. A guess that is the key's place spares the search.
-pub fn find_near(t: &[u8], used: usize, guess: usize, key: &[u8]) -> Place
+pub fn find_near(t: &[u8], used: usize, guess: usize, key: &[u8]) -> Result<usize, usize>
     requires t_value { record_form t.now ≡ true }
     requires used_value { used ≡ length (store t.now) }
     requires key_len { length key.now ≡ word_bytes }
     ensures { result ≡ place_of (store t.now) (num key.now) }
 {
     if has_key(t, used, guess, key) {
-        return Place::Has(guess);
+        return Ok(guess);
     }
     if is_place(t, used, guess, key) {
-        return Place::Gap(guess);
+        return Err(guess);
     }
     find(t, used, key)
 }

@@ -10,17 +10,6 @@ ghost use Rattle.founding.specs.Founding.{Empty, SetUpLent, first_series};
 // The data of a Register that requests the first procedure's capabilities: CapSize, CapType and words of each.
 const FIRST_BYTES: usize = rules::SERIES_AT + 15 * rules::WORD_BYTES;
 
-// Where in it the last byte of each CapSize is. That of the CapType is a word later, and then come the capability's words.
-const CALL_AT: usize = rules::SERIES_AT + rules::WORD_BYTES - 1;
-
-const REGISTER_AT: usize = CALL_AT + 3 * rules::WORD_BYTES;
-
-const DELETE_AT: usize = REGISTER_AT + 3 * rules::WORD_BYTES;
-
-const SET_ENTRY_AT: usize = DELETE_AT + 3 * rules::WORD_BYTES;
-
-const WRITE_AT: usize = SET_ENTRY_AT + 2 * rules::WORD_BYTES;
-
 // How many records these capabilities need: the count of each of the five types, and the second word of Write, the only one that
 // is not zero.
 const FIRST_RECORDS: usize = 6;
@@ -29,19 +18,15 @@ const FIRST_RECORDS: usize = 6;
 fn first_series() -> [u8; FIRST_BYTES]
     ensures { result ≡ first_series }
 {
-    let mut d = [0u8; FIRST_BYTES];
-    d[CALL_AT] = 2;
-    d[CALL_AT + rules::WORD_BYTES] = rules::Kind::CALL.0;
-    d[REGISTER_AT] = 2;
-    d[REGISTER_AT + rules::WORD_BYTES] = rules::Kind::REGISTER.0;
-    d[DELETE_AT] = 2;
-    d[DELETE_AT + rules::WORD_BYTES] = rules::Kind::DELETE.0;
-    d[SET_ENTRY_AT] = 1;
-    d[SET_ENTRY_AT + rules::WORD_BYTES] = rules::Kind::SET_ENTRY.0;
-    d[WRITE_AT] = 3;
-    d[WRITE_AT + rules::WORD_BYTES] = rules::Kind::WRITE.0;
-    let last = &mut d[FIRST_BYTES - rules::WORD_BYTES..FIRST_BYTES];
-    moves::copy(last, &[0xff; rules::WORD_BYTES]);
+    let mut d = [0; FIRST_BYTES];
+    let mut at = rules::SERIES_AT;
+    for kind in rules::Kind::ALL {
+        let words = kind.words();
+        d[at + rules::WORD_BYTES - 1] = 1 + words as u8;
+        d[at + requests::HEAD - 1] = kind.0;
+        at += requests::HEAD + rules::WORD_BYTES * words;
+    }
+    d[FIRST_BYTES - rules::WORD_BYTES..].fill(0xff);
     d
 }
 

@@ -12,12 +12,11 @@ pub fn insert(t: &mut [u8], i: usize, used: usize, key: &[u8], value: &[u8])
     ensures { t.new ≡ inserted i used key.now value.now t.old }
 {
     let at = rules::RECORD_SIZE * i;
-    let end = rules::RECORD_SIZE * used + rules::RECORD_SIZE;
-    tails::shift_right(&mut t[at..end], rules::RECORD_SIZE);
+    let end = rules::RECORD_SIZE * used;
+    t.copy_within(at..end, at + rules::RECORD_SIZE);
     let middle = at + rules::WORD_BYTES;
     moves::copy_word(&mut t[at..middle], key);
-    let stop = at + rules::RECORD_SIZE;
-    moves::copy_word(&mut t[middle..stop], value);
+    moves::copy_word(&mut t[middle..at + rules::RECORD_SIZE], value);
 }
 
 // Another value in record i.
@@ -25,9 +24,11 @@ pub fn replace(t: &mut [u8], i: usize, value: &[u8])
     requires { (record_size * i + record_size ≤ length t.old) × (length value.now ≡ word_bytes) }
     ensures { t.new ≡ replaced i value.now t.old }
 {
-    let at = rules::RECORD_SIZE * i + rules::WORD_BYTES;
-    let end = rules::RECORD_SIZE * i + rules::RECORD_SIZE;
-    moves::copy_word(&mut t[at..end], value);
+    let at = rules::RECORD_SIZE * i;
+    moves::copy_word(
+        &mut t[at + rules::WORD_BYTES..at + rules::RECORD_SIZE],
+        value,
+    );
 }
 
 // Room for `count` records before record i of the `used` occupied ones: those from there on move down, and zeros take their place.
@@ -36,9 +37,8 @@ pub fn make_room(t: &mut [u8], i: usize, count: usize, used: usize)
     ensures { t.new ≡ opened i count used t.old }
 {
     let at = rules::RECORD_SIZE * i;
-    let gap = rules::RECORD_SIZE * count;
-    let end = rules::RECORD_SIZE * used + gap;
-    tails::shift_right(&mut t[at..end], gap);
-    let stop = at + gap;
+    let end = rules::RECORD_SIZE * used;
+    let stop = at + rules::RECORD_SIZE * count;
+    t.copy_within(at..end, stop);
     moves::clear(&mut t[at..stop]);
 }

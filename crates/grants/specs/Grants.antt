@@ -1,13 +1,11 @@
 -- What the judging of Register's requests promises.
-use Rattle.std.specs.Prelude.{◌≡◌, List, true, false}
+use Rattle.std.specs.Prelude.{ℕ, ◌≡◌, List, true, false, Option, None, Some}
 use Rattle.rules.specs.Table.{Store}
 use Rattle.rules.specs.Sound.{all_of}
 use Rattle.rules.specs.Messages.{Request}
 use Rattle.rules.specs.Calls.{contained, tests}
-use Rattle.grants.specs.declared.Grant.{Grant}
 
--- whether each request is contained in what the current procedure holds; how many tests that took, or 0 where one is not
-pub record Granted (s : Store) (rs : List Request) (r : Grant) : Type 0 where
-  pub contained : r.contained ≡ all_of (contained s) rs
-  pub tests : r.contained ≡ true → r.tests ≡ tests s rs
-  pub none : r.contained ≡ false → r.tests ≡ 0
+-- how many tests it took, if each request is contained in what the current procedure holds; none if one is not
+abbrev pub Granted : Store → List Request → Option ℕ → Type 0
+Granted s rs None = all_of (contained s) rs ≡ false
+Granted s rs (Some n) = (all_of (contained s) rs ≡ true) × (n ≡ tests s rs)

@@ -7,16 +7,10 @@ ghost use Rattle.requests.specs.Requests.{WellFormedFrom};
 ghost use Rattle.results.specs.Results.{SoundWith};
 ghost use Rattle.grants.specs.Grants.{Granted};
 
-// Whether each requested capability is contained, and then how many tests that took.
-#[derive(Clone, Copy)]
-pub struct Grant {
-    pub contained: bool,
-    pub tests: u64,
-}
-
-// For each requested capability in order, held ones of its type in order. Nothing is stored here: a request is judged by what is
-// held before the call. What one search read serves the next, as long as the type stays the same.
-pub fn judge_requests(t: &[u8], used: usize, d: &[u8]) -> Grant
+// How many tests it took to find each requested capability contained; none if one is not. For each in order, held ones of its type
+// in order. Nothing is stored here: a request is judged by what is held before the call. What one search read serves the next, as
+// long as the type stays the same.
+pub fn judge_requests(t: &[u8], used: usize, d: &[u8]) -> Option<u64>
     requires sound_with { SoundWith t.now used }
     requires well_formed_from { WellFormedFrom d.now series_at × (length d.now ≤ greatest_message) }
     ensures { Granted (store t.now) (requests d.now) result }
@@ -26,32 +20,21 @@ pub fn judge_requests(t: &[u8], used: usize, d: &[u8]) -> Grant
     let mut copies = held::no_copies();
     let mut reading = held::unread(t, used, registrar, rules::Kind::CALL);
     let mut tests: u64 = 0;
-    let mut at = rules::SERIES_AT;
-    while at < d.len() {
-        let request = series::request_at(d, at);
-        let words_at = request.words_at;
+    for request in series::requests(d) {
         let found = held::search_held(
             &mut copies,
             t,
             used,
             registrar,
             request.kind,
-            &d[words_at..],
+            request.words,
             reading,
         );
-        reading = found.reading;
-        if found.contained {
-            tests += found.tests as u64;
-            at = request.next;
-        } else {
-            return Grant {
-                contained: false,
-                tests: 0,
-            };
+        if !found.contained {
+            return None;
         }
+        tests += found.tests as u64;
+        reading = found.reading;
     }
-    Grant {
-        contained: true,
-        tests,
-    }
+    Some(tests)
 }

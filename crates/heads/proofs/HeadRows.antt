@@ -1,13 +1,7 @@
 -- The two records that begin a procedure, test by test: parts of keys are quotients and remainders of their numbers, and the key at
 -- the place that an index names is read behind the list length.
-use Prim.Native.Nat.{ℕ, suc, ◌+◌, ◌*◌, ◌/◌, ◌%◌, ◌^◌, ◌≤◌, ◌<◌, min}
-use native.Mathlib.Omega.{arith}
-use mathlib.Core.Path.{◌≡◌, sym, ap, ap₂, ◌∙◌}
-use mathlib.Core.Logic.{◌≢◌}
-use mathlib.Core.Bool.{Bool, true, false, ◌&&◌}
-use lib.Dec.{eqb}
-use lib.ListN.{length, take, get_or}
-use borrow.Author.Tests.{eqb-true, eqb-false, eq-eqb, ne_eqb, le-leb, lt-leb}
+use Rattle.std.proofs.Common.{ℕ, suc, ◌+◌, ◌*◌, ◌/◌, ◌%◌, ◌^◌, ◌≤◌, ◌<◌, min, arith, ◌≡◌, sym, ap, ap₂, ◌∙◌, ◌≢◌, Bool, true, false, ◌&&◌, eqb, length, take, get_or, eqb-true, eq-eqb, ne_eqb, le-leb}
+use borrow.Author.Tests.{eqb-false, lt-leb}
 use Rattle.rules.specs.Words.{Bytes, AllBytes, word_bytes, num, word_at}
 use Rattle.rules.specs.Table.{store}
 use Rattle.rules.specs.Procedures.{list_length}
@@ -61,9 +55,6 @@ module _ (k n : ℕ) {e : ℕ} (end : e ≡ k % 256 ^ 3) {a : Bool} (p : a ≡ e
 module _ {t : Bytes} {list places : ℕ} (l : Laid t list places) (x p : ℕ) {i : ℕ} (e : i ≡ min x small_limit) where
   pub no_index : i < 1 → false ≡ named t x p
   no_index h = rw (lt-leb 1 x (omega (arith, e)))
-
-  pub no_place : 1 ≤ i → places < i → false ≡ named t x p
-  no_place h g = rw (le-leb 1 x (omega (arith, e)), lt-leb x (list_length (store t)) (omega (arith, e, l.all)))
 
   pub place-if : 1 ≤ i → i ≤ places → {w : Bytes} → WordPart t (64 * (list + i) + 32) w → {r : Bool} → r ≡ eqb (num w) p → r ≡ named t x p
   place-if h g v q =

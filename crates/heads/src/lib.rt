@@ -15,7 +15,7 @@ pub fn same_front(a: &[u8], b: &[u8]) -> bool
     requires { (length a.now ≡ word_bytes) × (length b.now ≡ word_bytes) }
     ensures { result ≡ eqb (front_of (num a.now)) (front_of (num b.now)) }
 {
-    words::same(&a[0..keys::END_AT], &b[0..keys::END_AT])
+    words::same(&a[..keys::END_AT], &b[..keys::END_AT])
 }
 
 // Whether a key ends with zeros and the other is the one behind it.
@@ -23,15 +23,9 @@ fn begin(key: &[u8], next: &[u8]) -> bool
     requires { (length key.now ≡ word_bytes) × (length next.now ≡ word_bytes) }
     ensures { result ≡ (eqb (num key.now % 256 ^ 3) 0 && eqb (num next.now) (suc (num key.now))) }
 {
-    if words::is_zero(&key[keys::END_AT..rules::WORD_BYTES]) {
-        if words::same(&next[0..LAST], &key[0..LAST]) {
-            next[LAST] == 1
-        } else {
-            false
-        }
-    } else {
-        false
-    }
+    words::is_zero(&key[keys::END_AT..])
+        && words::same(&next[..LAST], &key[..LAST])
+        && next[LAST] == 1
 }
 
 // Whether an index names a place of the list, and a procedure's key stands there.
@@ -41,10 +35,7 @@ fn names(t: &[u8], list: usize, places: usize, index: &[u8], procedure: &[u8]) -
     ensures { result ≡ named t.now (num index.now) (num procedure.now) }
 {
     let place = words::small(index);
-    if place < 1 {
-        return false;
-    }
-    if places < place {
+    if place < 1 || places < place {
         return false;
     }
     let there = moves::word_at(t, rules::RECORD_SIZE * (list + place) + rules::WORD_BYTES);
@@ -58,14 +49,14 @@ pub fn head_rows(t: &[u8], list: usize, places: usize, i: usize) -> bool
     ensures { result ≡ head_rows (store t.now) (record_at t.now i) (record_at t.now (i + 1)) }
 {
     let key = moves::word_at(t, rules::RECORD_SIZE * i);
-    if begin(key, moves::word_at(t, rules::RECORD_SIZE * (i + 1))) {
-        if key_words::is_address(moves::word_at(t, rules::RECORD_SIZE * i + rules::WORD_BYTES)) {
-            let index = moves::word_at(t, rules::RECORD_SIZE * (i + 1) + rules::WORD_BYTES);
-            names(t, list, places, index, keys::middle_of(key))
-        } else {
-            false
-        }
-    } else {
-        false
-    }
+    let next = rules::RECORD_SIZE * (i + 1);
+    begin(key, moves::word_at(t, next))
+        && key_words::is_address(moves::word_at(t, rules::RECORD_SIZE * i + rules::WORD_BYTES))
+        && names(
+            t,
+            list,
+            places,
+            moves::word_at(t, next + rules::WORD_BYTES),
+            keys::middle_of(key),
+        )
 }

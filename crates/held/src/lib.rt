@@ -16,7 +16,7 @@ const COPIES_BYTES: usize = rules::GREATEST_COUNT * holding::CAPABILITY_BYTES;
 
 // How far the capabilities of a type were read: how many are held, and of how many, from the first on, there are copies. `next` is
 // a guess where the next one's words stand in the table.
-#[derive(Clone, Copy)]
+#[derive(Clone, Copy, Debug, PartialEq, Eq)]
 pub struct Reading {
     pub kind: Kind,
     pub number: usize,
@@ -25,8 +25,9 @@ pub struct Reading {
 }
 
 // What a search finds: whether a held capability contains the requested one, and how many were tested. The last one tested
-// is the first that contains it, so `tests` is then its place among those held, from 1. `reading` is for the next search.
-#[derive(Clone, Copy)]
+// is the first that contains it, so `tests` is then its place among those held, from 1. `reading` is for the next search. No Option
+// holds `tests`: it counts in both cases (`Searched`).
+#[derive(Clone, Copy, Debug, PartialEq, Eq)]
 pub struct Search {
     pub contained: bool,
     pub tests: usize,
@@ -46,12 +47,11 @@ pub fn unread(t: &[u8], used: usize, procedure: &[u8], kind: Kind) -> Reading
     ensures { Unread (store t.now) (num procedure.now) kind.0 result }
 {
     let count = holding::read_count(t, used, procedure, kind);
-    let next = count.place + 1;
     Reading {
         kind,
         number: count.number,
         read: 0,
-        next,
+        next: count.place + 1,
     }
 }
 
@@ -60,7 +60,7 @@ fn ready(t: &[u8], used: usize, procedure: &[u8], kind: Kind, reading: Reading) 
     requires { Readable t.now used procedure.now }
     ensures { Ready (store t.now) (num procedure.now) kind.0 reading result }
 {
-    if reading.kind.0 == kind.0 {
+    if reading.kind == kind {
         reading
     } else {
         unread(t, used, procedure, kind)
@@ -86,15 +86,14 @@ fn read_next(
     }
     let at = holding::CAPABILITY_BYTES * i;
     let end = at + holding::CAPABILITY_BYTES;
-    let read = i + 1;
-    let kind = reading.kind;
     let part = &mut copies[at..end];
+    let kind = reading.kind;
+    let read = i + 1;
     let next = holding::read_words(part, t, used, procedure, kind, read as u8, reading.next);
     Reading {
-        kind,
-        number: reading.number,
         read,
         next,
+        ..reading
     }
 }
 
@@ -115,16 +114,14 @@ pub fn search_held(
 {
     let mut reading = ready(t, used, procedure, kind, reading);
     let number = reading.number;
-    let mut i = 0;
-    while i < number {
+    for i in 0..number {
         reading = read_next(copies, t, used, procedure, reading, i);
         let at = holding::CAPABILITY_BYTES * i;
         let end = at + holding::CAPABILITY_BYTES;
-        i += 1;
         if rights::within(kind, request, &copies[at..end]) {
             return Search {
                 contained: true,
-                tests: i,
+                tests: i + 1,
                 reading,
             };
         }

@@ -1,11 +1,5 @@
 -- The words of a held capability, looked up in the table and put one behind the other: they are the capability that the store holds.
-use Prim.Native.Nat.{ℕ, ◌+◌, ◌*◌, ◌<◌, min}
-use native.Mathlib.Omega.{arith}
-use mathlib.Core.Path.{◌≡◌, refl, sym, ap, ap₂, ◌∙◌}
-use mathlib.Core.List.{[], ◌∷◌, ◌++◌}
-use mathlib.Core.Bool.{true}
-use lib.ListN.{length, take, drop, get_or, length-append, length-drop}
-use lib.Seq.{take_at, drop_at, drop-drop}
+use Rattle.std.proofs.Common.{ℕ, ◌+◌, ◌*◌, ◌<◌, min, arith, ◌≡◌, refl, sym, ap, ap₂, ◌∙◌, [], ◌∷◌, ◌++◌, true, length, take, drop, get_or, length-append, length-drop, take_at, drop_at, drop-drop}
 use borrow.Rule.Slice.PartMut.{put_mid, post_of}
 use Rattle.rules.specs.Words.{Bytes, num, word, words}
 use Rattle.rules.specs.Table.{Store, get, store, record_form}

@@ -8,13 +8,11 @@ ghost use Rattle.rules.specs.Capabilities.{greatest_words};
 ghost use Rattle.words.specs.Words.{small_limit};
 ghost use Rattle.holding.specs.Holding.{Readable, CountOf, WordsRead, no_capability, CapabilityOf};
 
-use records::Place;
-
 // Room for a capability of any type.
 pub const CAPABILITY_BYTES: usize = rules::WORD_BYTES * rules::GREATEST_WORDS;
 
 // How many capabilities of a type a procedure holds, and the place of that count: how many keys are below its key.
-#[derive(Clone, Copy)]
+#[derive(Clone, Copy, Debug, PartialEq, Eq)]
 pub struct Count {
     pub number: usize,
     pub place: usize,
@@ -27,17 +25,12 @@ pub fn read_count(t: &[u8], used: usize, procedure: &[u8], kind: rules::Kind) ->
 {
     let slot = slots::count_slot(procedure, kind);
     match records::find(t, used, &slot) {
-        Place::Has(i) => {
-            let value_at = rules::RECORD_SIZE * i + rules::WORD_BYTES;
-            Count {
-                number: words::small(moves::word_at(t, value_at)),
-                place: i,
-            }
+        Ok(place) => {
+            let value_at = rules::RECORD_SIZE * place + rules::WORD_BYTES;
+            let number = words::small(moves::word_at(t, value_at));
+            Count { number, place }
         }
-        Place::Gap(i) => Count {
-            number: 0,
-            place: i,
-        },
+        Err(place) => Count { number: 0, place },
     }
 }
 
@@ -46,8 +39,7 @@ pub fn count_of(t: &[u8], used: usize, procedure: &[u8], kind: rules::Kind) -> u
     requires { Readable t.now used procedure.now }
     ensures { result ≡ min (get (store t.now) (count_slot (num procedure.now) kind.0)) small_limit }
 {
-    let count = read_count(t, used, procedure, kind);
-    count.number
+    read_count(t, used, procedure, kind).number
 }
 
 // The words of the i-th capability of a type that a procedure holds, into room for two. Only those that the type has are looked up,

@@ -6,34 +6,30 @@ use Rattle.rules.specs.Words.{Bytes, AllBytes}
 use Rattle.rules.specs.Answers.{Answer, refused, done, called, registered, looked, Outcome, fields}
 use Rattle.demands.specs.Kernels.{State, StateBytes, AnyCall, setting_up, turning, looking, calling, LentBytes, message_in, defined_on, on_table}
 use Rattle.demands.specs.Demands.{Demand1, Demand2, Demand3}
-use Rattle.rules.specs.Source.{OwnPayload, reply_of, refused_reply, fields_with, fields_of}
+use Rattle.rules.specs.Source.{OwnPayload, reply_of, refused_reply, fields_of}
 use Rattle.demands.proofs.Demand1.{demand-1}
 use Rattle.demands.proofs.OwnMessage.{own-message}
 use Rattle.demands.proofs.Demand3.{demand-3}
 use Rattle.results.specs.Results.{Gives}
 use Rattle.payloads.specs.Payloads.{PayloadPromise}
 use Rattle.kept.specs.Functions.{Given, Functions, KeepPromises, answer_with, read_outcome, kernel_of, given_to}
-use Rattle.rules.specs.declared.Answer.{Answer as Case}
-use Rattle.rules.specs.declared.Answer.TheVariants.{Refused, Done, Called, Registered, Looked}
 use Rattle.rules.specs.Calls.{set_up, turn, look, system_call}
 use Rattle.rules.proofs.Source.{reply-fields, refusal-back}
 
 -- the reply of an answer stands for it
-answer_back : (m : Bytes) (a : Answer) → OwnPayload m a → (p : Bytes) → PayloadPromise m (reply_of a).answer p
-    → answer_with (reply_of a).answer (reply_of a).address (reply_of a).value p ≡ a
-unfolding answer_with reply_of refused_reply fields_with
+answer_back : (m : Bytes) (a : Answer) → OwnPayload m a → (p : Bytes) → PayloadPromise m (reply_of a) p → answer_with (reply_of a) p ≡ a
+unfolding answer_with reply_of fields_of
 answer_back m (refused c) h p kept = ap refused (refusal-back c)
 answer_back m done h p kept = refl
-answer_back m (called a q) h p kept = ap (called a) (kept [] [] ∙ sym h)
+answer_back m (called a q) h p kept = ap (called a) (kept ∙ sym h)
 answer_back m (registered n) h p kept = refl
 answer_back m (looked v) h p kept = refl
 
 given_back : {o : Outcome} {g : Given} (m : Bytes) → Gives o g.reply g.table → OwnPayload m o.answer
-    → (p : Bytes) → PayloadPromise m g.reply.answer p → read_outcome g p ≡ o
+    → (p : Bytes) → PayloadPromise m g.reply p → read_outcome g p ≡ o
 unfolding read_outcome
 given_back {o} {g} m h own p kept =
-    let answer : answer_with g.reply.answer g.reply.address g.reply.value p ≡ o.answer =
-    rw h.reply (answer_back m o.answer own p (rw h.reply at kept)) in
+    let answer : answer_with g.reply p ≡ o.answer = rw h.reply (answer_back m o.answer own p (rw h.reply at kept)) in
     rw (answer, h.table)
 
 -- what a call is given are bytes
@@ -53,7 +49,7 @@ module _ (f : Functions) (kept : KeepPromises f) where
 
   -- each call's outcome is the one that the rules define
   as-defined : (t : Bytes) (c : AnyCall) → AllBytes t → LentBytes c
-      → read_outcome (given_to f t c) (f.payload_gives (message_in c) (given_to f t c).reply.answer) ≡ defined_on t c
+      → read_outcome (given_to f t c) (f.payload_gives (message_in c) (given_to f t c).reply) ≡ defined_on t c
   as-defined t c bs lent =
       given_back (message_in c) (gives t c bs lent) (own-message t c) _ (kept.payload_kept (message_in c) _ (message-bytes c lent))
 
@@ -81,16 +77,8 @@ defined_functions =
       turn_gives = λ t k. record { reply = reply_of (turn t k).answer; table = (turn t k).table };
       look_gives = λ t k. record { reply = reply_of (look t k).answer; table = (look t k).table };
       system_call_gives = λ t m code mask. record { reply = reply_of (system_call t m code mask).answer; table = (system_call t m code mask).table };
-      payload_gives = λ m answer. (fields_with answer [] [] m).payload;
+      payload_gives = λ m reply. (fields_of reply m).payload;
     }
-
-payload-alone : (answer : Case) (m a v : Bytes) → (fields_with answer [] [] m).payload ≡ (fields_with answer a v m).payload
-unfolding fields_with
-payload-alone (Refused c) m a v = refl
-payload-alone Done m a v = refl
-payload-alone Called m a v = refl
-payload-alone (Registered n) m a v = refl
-payload-alone Looked m a v = refl
 
 pub promises-kept : KeepPromises defined_functions
 unfolding defined_functions
@@ -100,5 +88,5 @@ promises-kept =
       turn_kept = λ t k bs ks. record { reply = refl; table = refl };
       look_kept = λ t k bs ks. record { reply = refl; table = refl };
       system_call_kept = λ t m code mask bs ms cs ks. record { reply = refl; table = refl };
-      payload_kept = λ m answer ms a v. payload-alone answer m a v;
+      payload_kept = λ m reply ms. refl;
     }

@@ -1,11 +1,10 @@
 -- The functions of the crate `kernel` as a kernel in the sense of the demands: what each gives back is read as an answer and a table.
+use Rattle.std.specs.Prelude.{Ok, Err}
 use Rattle.rules.specs.Words.{Bytes, AllBytes}
 use Rattle.rules.specs.Answers.{refusals, Answer, refused, done, called, registered, looked, Outcome}
 use Rattle.demands.specs.Kernels.{AnyCall, setting_up, turning, looking, calling, message_in, on_table, Kernel}
-use Rattle.rules.specs.Source.{refusal_among}
-use Rattle.rules.specs.declared.Answer.{Answer as Case}
-use Rattle.rules.specs.declared.Answer.TheVariants.{Refused, Done, Called, Registered, Looked}
-use Rattle.rules.specs.declared.Reply.{Reply}
+use Rattle.rules.specs.Source.{refusal_among, Reply}
+use Rattle.rules.specs.declared.Success.TheVariants.{Done, Called, Registered, Looked}
 use Rattle.kernel.specs.Promises.{SetUpPromise, TurnPromise, LookPromise, SystemCallPromise}
 use Rattle.payloads.specs.Payloads.{PayloadPromise}
 
@@ -20,7 +19,7 @@ pub record Functions : Type 0 where
   pub turn_gives : (table key : Bytes) → Given
   pub look_gives : (table slot_key : Bytes) → Given
   pub system_call_gives : (table message code mask : Bytes) → Given
-  pub payload_gives : (message : Bytes) → Case → Bytes
+  pub payload_gives : (message : Bytes) → Reply → Bytes
 
 -- They keep the promises of `set_up`, `turn`, `look`, `system_call` and `payload`, which are lent bytes.
 pub record KeepPromises (f : Functions) : Type 0 where
@@ -30,18 +29,18 @@ pub record KeepPromises (f : Functions) : Type 0 where
   pub look_kept : (t k : Bytes) → AllBytes t → AllBytes k → LookPromise t k (f.look_gives t k).reply (f.look_gives t k).table
   pub system_call_kept : (t m code mask : Bytes) → AllBytes t → AllBytes m → AllBytes code → AllBytes mask
       → SystemCallPromise t m code mask (f.system_call_gives t m code mask).reply (f.system_call_gives t m code mask).table
-  pub payload_kept : (m : Bytes) (answer : Case) → AllBytes m → PayloadPromise m answer (f.payload_gives m answer)
+  pub payload_kept : (m : Bytes) (reply : Reply) → AllBytes m → PayloadPromise m reply (f.payload_gives m reply)
 
 -- the answer that a reply stands for, with the payload that belongs to it
-unfoldable pub answer_with : Case → (address value payload : Bytes) → Answer
-answer_with (Refused c) a v p = refused (refusal_among refusals c.0)
-answer_with Done a v p = done
-answer_with Called a v p = called a p
-answer_with (Registered n) a v p = registered n
-answer_with Looked a v p = looked v
+unfoldable pub answer_with : Reply → (payload : Bytes) → Answer
+answer_with (Err c) p = refused (refusal_among refusals c.0)
+answer_with (Ok Done) p = done
+answer_with (Ok (Called a)) p = called a p
+answer_with (Ok (Registered n)) p = registered n
+answer_with (Ok (Looked v)) p = looked v
 
 unfoldable pub read_outcome : Given → (payload : Bytes) → Outcome
-read_outcome g p = record { answer = answer_with g.reply.answer g.reply.address g.reply.value p; table = g.table }
+read_outcome g p = record { answer = answer_with g.reply p; table = g.table }
 
 -- what the functions give back to a call
 abbrev pub given_to : Functions → Bytes → AnyCall → Given
@@ -53,4 +52,4 @@ given_to f t (calling m code mask) = f.system_call_gives t m code mask
 -- the kernel that the functions are: the payload is what `payload` gives of the message; only a system call has one
 abbrev pub kernel_of : Functions → Kernel
 kernel_of f s c =
-    on_table s (read_outcome (given_to f s.table c) (f.payload_gives (message_in c) (given_to f s.table c).reply.answer))
+    on_table s (read_outcome (given_to f s.table c) (f.payload_gives (message_in c) (given_to f s.table c).reply))

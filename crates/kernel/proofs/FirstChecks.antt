@@ -1,5 +1,6 @@
 -- What every call judges first: how many bytes it was lent, and whether the table is sound.
-use Prim.Native.Nat.{ℕ}
+use Rattle.std.proofs.Common.{ℕ, Result, Ok, Err}
+use Rattle.rules.specs.Answers.{ef, code_number}
 use mathlib.Core.Path.{◌≡◌, ap}
 use mathlib.Core.Bool.{true, false, not}
 use lib.ListN.{length}
@@ -8,9 +9,8 @@ use Rattle.rules.specs.Words.{Bytes}
 use Rattle.rules.specs.Sound.{sound_table}
 use Rattle.rules.specs.Calls.{wrong_bytes}
 use Rattle.soundness.specs.Soundness.{soundness_of}
-use Rattle.soundness.specs.declared.Soundness.{Soundness}
-use Rattle.soundness.specs.declared.Soundness.TheVariants.{Sound, Unsound}
-use Rattle.soundness.proofs.Whole.{sound-table, sound-count, unsound-table}
+use Rattle.rules.specs.declared.Refusal.{Refusal as Code}
+use Rattle.soundness.proofs.Whole.{sound-table, sound-count, unsound-table, unsound-code}
 use Rattle.results.specs.Results.{SoundWith}
 
 module _ (n : ℕ) (bs : Bytes) where
@@ -22,11 +22,15 @@ module _ (n : ℕ) (bs : Bytes) where
   unfolding wrong_bytes
   right-bytes h = ap not (eq-eqb (length bs) n h)
 
-module _ (t : Bytes) {r : Soundness} (e : r ≡ soundness_of t) where
-  pub not_sound : r ≡ Unsound → not (sound_table t) ≡ true
-  not_sound h = ap not (unsound-table t e h)
+module _ (t : Bytes) {r : Result ℕ Code} (e : r ≡ soundness_of t) where
+  module _ {code : Code} (h : r ≡ Err code) where
+    pub not_sound : not (sound_table t) ≡ true
+    not_sound = ap not (unsound-table t e h)
 
-  module _ {n : ℕ} (h : r ≡ Sound n) where
+    pub its-code : code ≡ record { 0 = code_number ef }
+    its-code = unsound-code t e h
+
+  module _ {n : ℕ} (h : r ≡ Ok n) where
     pub is-sound : not (sound_table t) ≡ false
     is-sound = ap not (sound-table t e h)
 

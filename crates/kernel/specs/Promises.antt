@@ -2,7 +2,7 @@
 -- promises stands in crates/payloads.
 use Rattle.rules.specs.Words.{Bytes}
 use Rattle.rules.specs.Calls.{set_up, turn, look, system_call}
-use Rattle.rules.specs.declared.Reply.{Reply}
+use Rattle.rules.specs.Source.{Reply}
 use Rattle.results.specs.Results.{Gives}
 
 abbrev pub SetUpPromise : (table key address kernel_address : Bytes) → Reply → (after : Bytes) → Type 0

@@ -4,7 +4,7 @@ use Prim.Native.Nat.{ℕ, ◌-◌, ◌/◌, ◌%◌, ◌^◌, ◌≤◌, ◌<◌
 use native.Mathlib.Omega.{arith}
 use native.Mathlib.Nat.{mod-eq_of_lt, div-one, div-eq_of_lt, div-lt_iff_lt-mul, one-le-pow, one-mul}
 use mathlib.Core.Path.{◌≡◌, refl, sym, ap, ◌∙◌}
-use mathlib.Core.Bool.{Bool, true, false, ◌&&◌, not}
+use mathlib.Core.Bool.{Bool, true, false, not}
 use lib.Dec.{eqb, leb, ltb}
 use lib.ListN.{length, take, drop, get_or, length-take, length-drop}
 use borrow.Author.Tests.{eqb-true, eqb-false, eq-eqb, ne_eqb, ltb-true, ltb-false, lt-ltb, le-leb, lt-leb}
@@ -26,62 +26,36 @@ quotient-zero x m h = same_test (eqb (x / m) 0) (ltb x m) there back
     back : ltb x m ≡ true → eqb (x / m) 0 ≡ true
     back q = eq-eqb (x / m) 0 (div-eq_of_lt (ltb-true x m q))
 
-not-zero : (x : ℕ) → not (eqb x 0) ≡ leb 1 x
+pub not-zero : (x : ℕ) → not (eqb x 0) ≡ leb 1 x
 not-zero x = go (eqb x 0) refl
   where
     go : (b : Bool) → eqb x 0 ≡ b → not b ≡ leb 1 x
     go true q = sym (lt-leb 1 x (omega (arith, eqb-true x 0 q)))
     go false q = sym (le-leb 1 x (let d = eqb-false x 0 q in omega arith))
 
-and-swap : (a b : Bool) → a ≡ false → (b && a) ≡ false
-and-swap a true e = e
-and-swap a false e = refl
-
 module _ {w : Bytes} (is : Word w) where
-  leading-zero : (n : ℕ) → n ≤ 32 → eqb (num (take n w)) 0 ≡ ltb (num w) (256 ^ (32 - n))
+  pub leading-zero : (n : ℕ) → n ≤ 32 → eqb (num (take n w)) 0 ≡ ltb (num w) (256 ^ (32 - n))
   leading-zero n h =
       ap (λ (x : ℕ). eqb x 0) (num-take w is.bytes n (32 - n) (omega (arith, is.size)))
       ∙ quotient-zero (num w) (256 ^ (32 - n)) (one-le-pow (32 - n) 256 (omega arith))
 
-  pub right-if : (n : ℕ) → n ≤ 32 → {a b : Bool} → a ≡ eqb (num (take (n - 0) w)) 0 → a ≡ true → b ≡ eqb (num w) 0
-      → not b ≡ (leb 1 (num w) && ltb (num w) (256 ^ (32 - n)))
-  right-if n h e q d =
-      let whole : n - 0 ≡ n = omega arith in
-      let below : ltb (num w) (256 ^ (32 - n)) ≡ true = sym (leading-zero n h) ∙ sym (rw whole at e) ∙ q in
-      ap not d ∙ not-zero (num w) ∙ rw below (sym (and-true (leb 1 (num w))))
-    where
-      and-true : (b : Bool) → (b && true) ≡ b
-      and-true true = refl
-      and-true false = refl
-
-  pub not_right : (n : ℕ) → n ≤ 32 → {a : Bool} → a ≡ eqb (num (take (n - 0) w)) 0 → a ≡ false
-      → false ≡ (leb 1 (num w) && ltb (num w) (256 ^ (32 - n)))
-  not_right n h e q =
-      let whole : n - 0 ≡ n = omega arith in
-      sym (and-swap _ (leb 1 (num w)) (sym (leading-zero n h) ∙ sym (rw whole at e) ∙ q))
-
   -- the last 24 bytes
-  pub last-key : KeyPart (num w) (take 24 (drop 8 w))
+  pub last-key : KeyPart (num w) (take (length w - 8) (drop 8 w))
   last-key =
-      record {
+      rw is.size
+      (record {
         size = simp (length-take, length-drop) (omega (arith, is.size));
         number = num-part w is.bytes 8 24 0 is.size ∙ ap (λ (x : ℕ). x % 256 ^ 24) (div-one (num w));
-      }
-
-  module _ (key : Bytes) (size : length key ≡ 24) (values : (i : ℕ) → get_or key i 0 < 256) {a : Bool} (e : a ≡ eqb (num (take 8 w)) 0) where
-    pub same_if : a ≡ true → {r : Bool} → r ≡ eqb (num (take 24 (drop 8 w))) (num key) → r ≡ eqb (num w) (num key)
-    same_if q d =
-        let below : num w < 256 ^ 24 = ltb-true (num w) (256 ^ 24) (sym (leading-zero 8 (omega arith)) ∙ sym e ∙ q) in
-        d ∙ ap (λ (x : ℕ). eqb x (num key)) (last-key.number ∙ mod-eq_of_lt below)
-
-    pub not_same : a ≡ false → false ≡ eqb (num w) (num key)
-    not_same q =
-        let above : 256 ^ 24 ≤ num w = ltb-false (num w) (256 ^ 24) (sym (leading-zero 8 (omega arith)) ∙ sym e ∙ q) in
-        sym (ne_eqb (num w) (num key) (apart (num w) (num key) (256 ^ 24) (num-fits 24 key (all-bytes key values) size) above))
-      where
-        apart : (x y m : ℕ) → y < m → m ≤ x → x ≡ y → ⊥
-        apart x y m h l p = omega arith
+      })
 
 -- the key of a word that is less than 256^24
 pub key-number : {x : ℕ} {part : Bytes} → KeyPart x part → x < 256 ^ 24 → num part ≡ x
 key-number p h = p.number ∙ mod-eq_of_lt h
+
+-- a word that is not less is no key
+pub not_same : (w key : Bytes) → length key ≡ 24 → ((i : ℕ) → get_or key i 0 < 256) → ltb (num w) (256 ^ 24) ≡ false → false ≡ eqb (num w) (num key)
+not_same w key size values q =
+    sym (ne_eqb (num w) (num key) (apart (num w) (num key) (256 ^ 24) (num-fits 24 key (all-bytes key values) size) (ltb-false (num w) (256 ^ 24) q)))
+  where
+    apart : (x y m : ℕ) → y < m → m ≤ x → x ≡ y → ⊥
+    apart x y m h l p = omega arith

@@ -1,29 +1,39 @@
 -- A slot's key, read: each part is a quotient or a remainder of the key's number. In kernel storage the parts make up the whole,
 -- so whether a key is that of a slot can be tested part by part.
-use Prim.Native.Nat.{ℕ, ◌+◌, ◌*◌, ◌/◌, ◌%◌, ◌^◌, ◌<◌}
-use native.Mathlib.Omega.{arith}
-use native.Mathlib.Nat.{mod-lt, div-add-mod', div-div-eq-div-mul}
-use mathlib.Core.Path.{◌≡◌, refl, sym, ap, ap₂, ◌∙◌}
-use mathlib.Core.Bool.{Bool, true, false, ◌&&◌}
-use mathlib.Core.List.{[], ◌∷◌}
-use lib.Dec.{eqb, lit<}
-use borrow.Author.Tests.{eqb-true, eqb-false}
-use lib.ListN.{length, take, drop, get_or, length-take, length-drop}
+use Rattle.std.proofs.Common.{ℕ, ◌+◌, ◌*◌, ◌/◌, ◌%◌, ◌^◌, ◌<◌, arith, mod-lt, div-add-mod', refl, sym, ap, ap₂, ◌∙◌, lit<, eqb-true}
+use Rattle.std.proofs.Common.{rules, Fits, w8, length-take, length-drop, ◌≡◌, Bool, true, false, ◌&&◌, [], ◌∷◌, length, take, drop}
+use Rattle.std.proofs.Common.{get_or, eqb, bytes_eq}
+use native.Mathlib.Nat.{div-div-eq-div-mul}
+use borrow.Author.Tests.{eqb-false}
+use Rattle.std.proofs.lemmas.Slice.Eq.{bytes_eq-Decides}
+use Rattle.std.proofs.lemmas.Bool.Decides.{Decides-eqb}
 use Rattle.rules.specs.Words.{Bytes, AllBytes, word_bytes, num_after, num}
 use Rattle.rules.specs.KernelStorage.{kernel_mark, in_kernel_storage, slot, ending, middle_of, end_second, end_third}
 use Rattle.laws.proofs.Bools.{decide-false, tests-true, true-tests}
-use Rattle.laws.proofs.Numerals.{all-bytes}
-use Rattle.laws.proofs.Slots.{Fits, slot-region, slot-middle, slot-end, ending-type, ending-middle, ending-last}
+use Rattle.laws.proofs.Numerals.{all-bytes, num-injective}
+use Rattle.laws.proofs.Slots.{Fits as SlotFits, slot-region, slot-middle, slot-end, ending-type, ending-middle, ending-last}
+use Rattle.laws.proofs.Words.{take-bytes}
 use Rattle.laws.proofs.Parts.{num-take, num-byte, num-part}
 use Rattle.keys.specs.Keys.{MiddleOf, region_of, end_first}
 
-module _ (key : Bytes) (size : length key ≡ word_bytes) (fits : (i : ℕ) → get_or key i 0 < 256) where
+module _ (key : Bytes) (size : length key ≡ word_bytes) (fits : (i : ℕ) → Fits w8 (get_or key i 0)) where
   bytes : AllBytes key
-  bytes = all-bytes key fits
+  bytes = all-bytes key (λ i. (fits i).fits)
 
-  pub mark-read : eqb (num (take 4 key)) (num (0xff ∷ 0xff ∷ 0xff ∷ 0xff ∷ [])) ≡ in_kernel_storage (num key)
+  abbrev mark : Bytes
+  mark = 0xff ∷ 0xff ∷ 0xff ∷ 0xff ∷ []
+
+  pub mark-read : (r : Bool) → r ≡ bytes_eq mark (take 4 key) → r ≡ in_kernel_storage (num key)
   unfolding in_kernel_storage num num_after
-  mark-read = ap (λ (x : ℕ). eqb x kernel_mark) (num-take key bytes 4 28 size)
+  mark-read true e =
+      let same : mark ≡ take 4 key = (bytes_eq-Decides mark (take 4 key)).0 (sym e) in
+      sym ((Decides-eqb _ _).1 (sym (num-take key bytes 4 28 size) ∙ ap num (sym same)))
+  mark-read false e =
+      sym (decide-false _ (λ (q : eqb (num key / 256 ^ 28) kernel_mark ≡ true).
+      let size_front : length (take 4 key) ≡ 4 = simp length-take (omega arith) in
+      let number : num mark ≡ num (take 4 key) = sym ((Decides-eqb _ _).0 q) ∙ sym (num-take key bytes 4 28 size) in
+      let same : mark ≡ take 4 key = num-injective mark (take 4 key) (sym size_front) (search rules) (take-bytes 4 key bytes) number in
+      let yes = (bytes_eq-Decides mark (take 4 key)).1 same in cc))
 
   pub middle-read : MiddleOf (num key) (take 24 (drop 5 key))
   unfolding middle_of
@@ -68,7 +78,7 @@ end_third-byte : (k : ℕ) → end_third k < 256
 unfolding end_third
 end_third-byte k = omega arith
 
-parts-fit : (k : ℕ) → Fits (region_of k) (middle_of k) (ending (end_first k) (end_second k) (end_third k))
+parts-fit : (k : ℕ) → SlotFits (region_of k) (middle_of k) (ending (end_first k) (end_second k) (end_third k))
 unfolding region_of middle_of
 parts-fit k =
     record {
@@ -81,7 +91,7 @@ parts-fit k =
 abbrev pub parts_same : (k region middle first second third : ℕ) → Bool
 parts_same k r m a b c = eqb (region_of k) r && eqb (middle_of k) m && eqb (end_first k) a && eqb (end_second k) b && eqb (end_third k) c
 
-module _ (k : ℕ) (inside : in_kernel_storage k ≡ true) {r m : ℕ} (a b c : ℕ) (f : Fits r m (ending a b c)) (hb : b < 256) (hc : c < 256) where
+module _ (k : ℕ) (inside : in_kernel_storage k ≡ true) {r m : ℕ} (a b c : ℕ) (f : SlotFits r m (ending a b c)) (hb : b < 256) (hc : c < 256) where
   parts-true : k ≡ slot r m (ending a b c) → parts_same k r m a b c ≡ true
   parts-true e =
       let whole = key-whole k inside ∙ e in

@@ -9,6 +9,11 @@ use lib.Dec.{eqb, leb}
 use lib.ListN.{length, take, drop, get_or, length-take, length-drop}
 use lib.Seq.{take_all, drop-cons, drop-drop}
 use borrow.Author.Tests.{le-leb, lt-leb, leb-false, ne_eqb}
+use Rattle.std.proofs.Common.{Option, Some, None, Bor, ⊎_elim, []}
+use Rattle.std.proofs.Math.ListN.{drop_of_length-le}
+use Rattle.std.proofs.lemmas.Grind.{common_steps}
+use Rattle.std.specs.Option.{UnwrapsOrElse}
+use Rattle.std.specs.Slice.{IsGetRangeResult}
 use Rattle.rules.specs.Words.{Bytes, AllBytes, num_after, num, word_at}
 use Rattle.laws.proofs.Words.{num-fits, take-bytes, drop-bytes}
 use Rattle.laws.proofs.Numerals.{num-more}
@@ -16,6 +21,12 @@ use Rattle.laws.proofs.Numerals.{num-more}
 -- the rest from an offset on, as a part of a slice arrives
 pub rest_part : (n : ℕ) (bs : Bytes) → take (length bs - n) (drop n bs) ≡ drop n bs
 rest_part n bs = take_all (length bs - n) (drop n bs) (simp length-drop (omega arith))
+
+-- the bytes from the n-th on, as `get` gives them, or none where there are fewer
+pub rest-or-none : (xs : Bytes) (n : ℕ) (r : Option (Bor Bytes)) (rest : Bor Bytes) → IsGetRangeResult xs n (length xs) r
+    → UnwrapsOrElse r (λ x. x.now ≡ []) rest → rest.now ≡ drop n xs
+rest-or-none xs n None rest p d = d ∙ sym (drop_of_length-le xs (⊎_elim (λ h. omega arith) (λ h. omega arith) p.0))
+rest-or-none xs n (Some part) rest p d = grind (arith, common_steps)
 
 -- one byte
 pub num-one : (bs : Bytes) (at : ℕ) → at < length bs → num (take 1 (drop at bs)) ≡ get_or bs at 0

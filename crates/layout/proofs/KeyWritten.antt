@@ -1,10 +1,6 @@
 -- A slot's key, written: the number of its 32 bytes is the slot of their parts. The bytes are read from the front, so the number
 -- of the middle is added behind the mark and the region, and the end behind that.
-use Prim.Native.Nat.{ℕ, ◌+◌, ◌*◌, ◌^◌}
-use native.Mathlib.Omega.{arith}
-use mathlib.Core.Path.{◌≡◌, ap, ◌∙◌}
-use mathlib.Core.List.{[], ◌∷◌, ◌++◌}
-use lib.ListN.{length, length-append}
+use Rattle.std.proofs.Common.{ℕ, ◌+◌, ◌*◌, ◌^◌, arith, ap, ◌∙◌, length-append, ◌≡◌, [], ◌∷◌, ◌++◌, length}
 use Rattle.rules.specs.Words.{Bytes, key_bytes, word_bytes, num_after, num}
 use Rattle.rules.specs.KernelStorage.{kernel_mark, slot, ending}
 use Rattle.laws.proofs.Numerals.{num_after-append, num_after-num}

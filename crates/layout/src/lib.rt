@@ -11,12 +11,10 @@ pub fn slot(region: u8, middle: &[u8], first: u8, second: u8, third: u8) -> [u8;
     ensures { Holds word_bytes result (slot region (num middle.now) (ending first second third)) }
 {
     let mut key = [0u8; rules::WORD_BYTES];
+    key[..keys::REGION_AT].copy_from_slice(&rules::KERNEL_MARK);
     key[keys::REGION_AT] = region;
-    key[keys::END_AT] = first;
-    key[keys::END_AT + 1] = second;
-    key[keys::END_AT + 2] = third;
-    moves::copy(&mut key[0..keys::REGION_AT], &rules::KERNEL_MARK);
-    moves::copy(&mut key[keys::MIDDLE_AT..keys::END_AT], middle);
+    key[keys::END_AT..].copy_from_slice(&[first, second, third]);
+    key[keys::MIDDLE_AT..keys::END_AT].copy_from_slice(middle);
     key
 }
 
@@ -25,10 +23,9 @@ pub fn write_number(to: &mut [u8], n: usize)
     ensures { to.new ≡ bytes_of (length to.old) n }
 {
     let mut left = n;
-    let mut i = to.len();
-    while 0 < i {
-        i -= 1;
+    // By index: a proof knows nothing of what `iter_mut().rev()` writes.
+    for i in (0..to.len()).rev() {
         to[i] = (left % 256) as u8;
-        left = left / 256;
+        left /= 256;
     }
 }

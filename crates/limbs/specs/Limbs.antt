@@ -1,5 +1,5 @@
 -- The limbs of a word.
-use Rattle.std.specs.Prelude.{ℕ, ◌+◌, ◌*◌, ◌/◌, ◌%◌, ◌<◌, ◌≡◌, take, drop, get_or}
+use Rattle.std.specs.Prelude.{ℕ, ◌<◌, ◌≡◌, take, drop}
 use Rattle.rules.specs.Words.{Bytes, num}
 
 -- a word's limbs are numbers of four bytes
@@ -23,10 +23,3 @@ long_limb_base = 18446744073709551616
 
 pub record LongLimb (bs : Bytes) (at x : ℕ) : Type 0 where
   pub is : x ≡ num (take long_limb_bytes (drop at bs))
-
--- the number of four bytes, the first least significant, and the number of its bytes in reverse order
-abbrev pub little_of : Bytes → ℕ
-little_of bs = get_or bs 0 0 + get_or bs 1 0 * 256 + get_or bs 2 0 * 65536 + get_or bs 3 0 * 16777216
-
-abbrev pub reversed_of : ℕ → ℕ
-reversed_of x = x % 256 * 16777216 + x / 256 % 256 * 65536 + x / 65536 % 256 * 256 + x / 16777216

@@ -1,11 +1,7 @@
 -- What a slot's 32 bytes stand for, and a listed key by its index and what stands at that place.
 -- A number that `small` gives is compared with one below its limit as the whole word would be.
-use Prim.Native.Nat.{ℕ, ◌^◌, ◌≤◌, ◌<◌, min}
-use native.Mathlib.Omega.{arith}
-use mathlib.Core.Path.{◌≡◌, sym, ap, ◌∙◌}
-use mathlib.Core.Bool.{Bool, true, false}
-use lib.Dec.{eqb}
-use borrow.Author.Tests.{le-leb, lt-leb}
+use Rattle.std.proofs.Common.{ℕ, ◌^◌, ◌≤◌, ◌<◌, min, arith, ◌≡◌, sym, ap, ◌∙◌, Bool, true, false, eqb, le-leb}
+use borrow.Author.Tests.{lt-leb}
 use Rattle.rules.specs.Words.{Bytes, num}
 use Rattle.rules.specs.Table.{Store, get, store}
 use Rattle.rules.specs.KernelStorage.{count_slot, index_slot, place_slot}

@@ -26,10 +26,7 @@ pub fn listed(t: &[u8], used: usize, places: usize, procedure: &[u8]) -> bool
 {
     let index_slot = slots::index_slot(procedure);
     let index = words::small(&value_at(t, used, &index_slot));
-    if index < 1 {
-        return false;
-    }
-    if places < index {
+    if index < 1 || places < index {
         return false;
     }
     let place_slot = slots::place_slot(index);

@@ -1,11 +1,5 @@
 -- A table whose list is laid out: the n-th place is the n-th record behind the list length, so its key is read there.
-use Prim.Native.Nat.{ℕ, zero, suc, ◌+◌, ◌*◌, ◌-◌, ◌≤◌, ◌<◌}
-use native.Mathlib.Omega.{arith}
-use mathlib.Core.Path.{◌≡◌, refl, sym, ap, ◌∙◌}
-use mathlib.Core.List.{List, [], ◌∷◌}
-use mathlib.Core.Bool.{true}
-use lib.ListN.{length, drop}
-use lib.Seq.{drop-drop}
+use Rattle.std.proofs.Common.{ℕ, zero, suc, ◌+◌, ◌*◌, ◌-◌, ◌≤◌, ◌<◌, arith, ◌≡◌, refl, sym, ap, ◌∙◌, List, [], ◌∷◌, true, length, drop, drop-drop}
 use Rattle.rules.specs.Words.{Bytes, word_at}
 use Rattle.rules.specs.Table.{Record, Store, get, store}
 use Rattle.rules.specs.KernelStorage.{length_slot, place_slot}

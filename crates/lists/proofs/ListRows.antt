@@ -1,13 +1,5 @@
 -- The records from the list length on, compared one by one with the row of keys; each that has its key leaves the rest of both.
-use Prim.Native.Nat.{ℕ, suc, ◌+◌, ◌*◌, ◌-◌, ◌≤◌, ◌<◌, min}
-use native.Mathlib.Omega.{arith}
-use native.Mathlib.Numerals.{add-one}
-use mathlib.Core.Path.{◌≡◌, refl, sym, ap, ◌∙◌}
-use mathlib.Core.List.{List, [], ◌∷◌}
-use mathlib.Core.Bool.{Bool, true, false, ◌&&◌}
-use lib.Dec.{eqb, ltb}
-use lib.ListN.{length, drop, drop_of_length-le}
-use borrow.Author.Tests.{eq-eqb, ne_eqb, lt-ltb, le-ltb, eqb-true}
+use Rattle.std.proofs.Common.{ℕ, suc, ◌+◌, ◌*◌, ◌-◌, ◌≤◌, ◌<◌, min, arith, add-one, ◌≡◌, refl, sym, ap, ◌∙◌, List, [], ◌∷◌, Bool, true, false, ◌&&◌, eqb, ltb, length, drop, drop_of_length-le, eq-eqb, ne_eqb, lt-ltb, le-ltb, eqb-true}
 use Rattle.rules.specs.Words.{Bytes, num, word_at}
 use Rattle.rules.specs.Table.{get, store}
 use Rattle.rules.specs.KernelStorage.{length_slot, place_slot, kernel_address_slot, current_slot, entry_slot}

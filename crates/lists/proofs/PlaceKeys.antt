@@ -1,13 +1,7 @@
 -- The key of a place, by its bytes: those before the last four of the middle are the list length's, those four are the place's number,
 -- and the end is zero.
-use Prim.Native.Nat.{ℕ, ◌+◌, ◌*◌, ◌/◌, ◌%◌, ◌^◌, ◌<◌}
-use native.Mathlib.Omega.{arith}
-use mathlib.Core.Path.{◌≡◌, refl, sym, ◌∙◌}
-use mathlib.Core.Logic.{◌≢◌}
-use mathlib.Core.Bool.{Bool, true, false}
-use lib.Dec.{eqb}
-use lib.ListN.{length, take, drop, get_or}
-use borrow.Author.Tests.{eqb-true, eqb-false, ne_eqb}
+use Rattle.std.proofs.Common.{ℕ, ◌+◌, ◌*◌, ◌/◌, ◌%◌, ◌^◌, ◌<◌, arith, ◌≡◌, refl, sym, ◌∙◌, ◌≢◌, Bool, true, false, eqb, length, take, drop, get_or, eqb-true, ne_eqb}
+use borrow.Author.Tests.{eqb-false}
 use Rattle.rules.specs.Words.{Bytes, word_bytes, num}
 use Rattle.rules.specs.KernelStorage.{kernel_mark, slot, length_slot, place_slot}
 use Rattle.laws.proofs.Tests.{eqb_same}

@@ -15,7 +15,7 @@ const FIXED: usize = 3;
 pub const NO_PLACES: usize = 1 + FIXED;
 
 // Whether the i-th record has a slot's key.
-fn has_key(t: &[u8], used: usize, i: usize, slot: &[u8]) -> bool
+fn is_slot(t: &[u8], used: usize, i: usize, slot: &[u8]) -> bool
     requires occupied { Occupied t.now used }
     requires i_lt_used { (i < used) × (length slot.now ≡ word_bytes) }
     ensures { result ≡ eqb (word_at t.now (record_size * i)) (num slot.now) }
@@ -27,20 +27,14 @@ fn has_key(t: &[u8], used: usize, i: usize, slot: &[u8]) -> bool
 const NUMBER_AT: usize = keys::END_AT - limbs::LIMB_BYTES;
 
 // Whether a key is that of the n-th place. It differs from the list length's, `start`, only in the last four bytes of the middle.
-fn is_place(key: &[u8], start: &[u8], n: usize) -> bool
+fn is_place_key(key: &[u8], start: &[u8], n: usize) -> bool
     requires key_len { (length key.now ≡ word_bytes) × (length start.now ≡ word_bytes) }
     requires start_value { (num start.now ≡ length_slot) × (n < limb_base) }
     ensures { result ≡ eqb (num key.now) (place_slot n) }
 {
-    if words::same(&key[0..NUMBER_AT], &start[0..NUMBER_AT]) {
-        if limbs::limb(key, NUMBER_AT) == n as u64 {
-            words::is_zero(&key[keys::END_AT..rules::WORD_BYTES])
-        } else {
-            false
-        }
-    } else {
-        false
-    }
+    words::same(&key[..NUMBER_AT], &start[..NUMBER_AT])
+        && limbs::limb(key, NUMBER_AT) == n as u64
+        && words::is_zero(&key[keys::END_AT..])
 }
 
 // Whether the last three records are the kernel address, the current and the entry key.
@@ -49,15 +43,9 @@ fn fixed_follow(t: &[u8], used: usize, i: usize) -> bool
     requires i_value { i + 3 ≡ used }
     ensures { result ≡ keys_are (drop i (store t.now)) (kernel_address_slot ∷ current_slot ∷ entry_slot ∷ []) }
 {
-    if has_key(t, used, i, &slots::kernel_address_slot()) {
-        if has_key(t, used, i + 1, &slots::current_slot()) {
-            has_key(t, used, i + 2, &slots::entry_slot())
-        } else {
-            false
-        }
-    } else {
-        false
-    }
+    is_slot(t, used, i, &slots::kernel_address_slot())
+        && is_slot(t, used, i + 1, &slots::current_slot())
+        && is_slot(t, used, i + 2, &slots::entry_slot())
 }
 
 // Whether the records behind the list length are the places, and then the last three.
@@ -68,11 +56,8 @@ fn places_follow(t: &[u8], used: usize, list: usize) -> bool
 {
     let start = moves::word_at(t, rules::RECORD_SIZE * list);
     let last = used - FIXED;
-    let mut i = list + 1;
-    while i < last {
-        if is_place(moves::word_at(t, rules::RECORD_SIZE * i), start, i - list) {
-            i += 1;
-        } else {
+    for i in list + 1..last {
+        if !is_place_key(moves::word_at(t, rules::RECORD_SIZE * i), start, i - list) {
             return false;
         }
     }
@@ -88,14 +73,8 @@ pub fn list_form(t: &[u8], used: usize, list: usize) -> bool
     if used <= list + NO_PLACES {
         return false;
     }
-    if has_key(t, used, list, &slots::length_slot()) {
-        let value = moves::word_at(t, rules::RECORD_SIZE * list + rules::WORD_BYTES);
-        if words::small(value) == used - list - NO_PLACES {
-            places_follow(t, used, list)
-        } else {
-            false
-        }
-    } else {
-        false
-    }
+    let value = moves::word_at(t, rules::RECORD_SIZE * list + rules::WORD_BYTES);
+    is_slot(t, used, list, &slots::length_slot())
+        && words::small(value) == used - list - NO_PLACES
+        && places_follow(t, used, list)
 }

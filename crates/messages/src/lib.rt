@@ -12,7 +12,7 @@ use rules::Kind;
 const NULL: u8 = 0;
 
 // What a message's type names.
-#[derive(Clone, Copy)]
+#[derive(Clone, Copy, Debug, PartialEq, Eq)]
 pub enum Named {
     Null,
     Unknown,
@@ -23,10 +23,7 @@ pub enum Named {
 pub fn named_by(m: &[u8]) -> Named
     ensures { result ≡ named_of (named (type_of m.now)) }
 {
-    if m.len() == 0 {
-        return Named::Null;
-    }
-    let number = m[0];
+    let number = m.first().copied().unwrap_or(NULL);
     if number == NULL {
         return Named::Null;
     }
@@ -42,10 +39,7 @@ pub fn named_by(m: &[u8]) -> Named
 pub fn data_of(m: &[u8]) -> &[u8]
     ensures { result.now ≡ data_of m.now }
 {
-    if m.len() == 0 {
-        return m;
-    }
-    &m[1..]
+    m.get(1..).unwrap_or_default()
 }
 
 // Whether the data is below the minimum of its type.
@@ -56,23 +50,16 @@ pub fn short(kind: Kind, d: &[u8]) -> bool
 }
 
 // Whether the data goes beyond the format of its type.
+#[tactic(auto, unfolding(crate::specs::Messages::overlong_of))]
 pub fn overlong(kind: Kind, d: &[u8]) -> bool
     ensures { result ≡ overlong_of kind.0 d.now }
 {
-    if kind.open_ended() {
-        return false;
-    }
-    kind.minimum_data() + 1 <= d.len()
+    !kind.open_ended() && kind.minimum_data() < d.len()
 }
 
 // Call's payload: a part of the message, and no copy.
 pub fn payload_of(m: &[u8]) -> &[u8]
     ensures { result.now ≡ payload_of (data_of m.now) }
 {
-    let start = 1 + rules::PAYLOAD_AT;
-    if start <= m.len() {
-        &m[start..]
-    } else {
-        &m[m.len()..]
-    }
+    m.get(1 + rules::PAYLOAD_AT..).unwrap_or_default()
 }

@@ -1,10 +1,8 @@
 #![tactic(auto)]
-// Bytes moved in slices: a word is read, bytes are copied, cleared and shifted.
+// Bytes moved in slices: a word is read, bytes are copied and cleared.
 ghost use Rattle.std.specs.Prelude.{◌≡◌, ◌+◌, ◌≤◌, length, replicate};
 ghost use Rattle.rules.specs.Words.{word_bytes};
 ghost use Rattle.moves.specs.Moves.{WordPart};
-
-pub use shifts::shift_left;
 
 // The word that begins at an offset.
 pub fn word_at(bytes: &[u8], at: usize) -> &[u8]
@@ -14,16 +12,14 @@ pub fn word_at(bytes: &[u8], at: usize) -> &[u8]
     &bytes[at..at + rules::WORD_BYTES]
 }
 
-// All of `from` into `to`, which is as long. The length of `to` is mostly known when the code is compiled, and the bytes are then
-// moved at once.
+// All of `from` into `to`, which is as long. A loop by hand: where the length of `to` is known when the code is compiled, the bytes are
+// then moved at once; by `copy_from_slice` a word takes up to four times as long.
 pub fn copy(to: &mut [u8], from: &[u8])
     requires { length to.old ≡ length from.now }
     ensures { to.new ≡ from.now }
 {
-    let mut i = 0;
-    while i < to.len() {
+    for i in 0..to.len() {
         to[i] = from[i];
-        i += 1;
     }
 }
 
@@ -43,17 +39,12 @@ pub fn copy_word(to: &mut [u8], from: &[u8])
     requires { (length to.old ≡ word_bytes) × (length from.now ≡ word_bytes) }
     ensures { to.new ≡ from.now }
 {
-    let word = read(from);
-    copy(to, &word);
+    copy(to, &read(from));
 }
 
 // Zero everywhere.
 pub fn clear(bytes: &mut [u8])
     ensures { bytes.new ≡ replicate (length bytes.old) 0 }
 {
-    let mut i = 0;
-    while i < bytes.len() {
-        bytes[i] = 0;
-        i += 1;
-    }
+    bytes.fill(0);
 }

@@ -1,6 +1,6 @@
 #![tactic(auto)]
 // Code validation at registration: the opcode mask alone decides which code passes.
-ghost use Rattle.std.specs.Prelude.{◌≡◌, ◌≤◌, length, drop};
+ghost use Rattle.std.specs.Prelude.{◌≡◌, ◌≤◌, ◌==◌, ◌||◌, length, position, not};
 ghost use Rattle.rules.specs.Words.{word_bytes};
 ghost use Rattle.rules.specs.Validation.{greatest_code, allowed, data_bytes, walk, passes};
 
@@ -19,68 +19,46 @@ pub fn allowed(mask: &[u8], opcode: u8) -> bool
 }
 
 // How many data bytes follow an opcode.
+#[tactic(auto, unfolding(rules::specs::Validation::data_bytes))]
 pub fn data_bytes(opcode: u8) -> usize
     ensures { result ≡ data_bytes opcode }
 {
-    if opcode < FIRST_PUSH {
-        return 0;
+    match opcode {
+        FIRST_PUSH..=LAST_PUSH => (opcode - (FIRST_PUSH - 1)) as usize,
+        _ => 0,
     }
-    if LAST_PUSH < opcode {
-        return 0;
-    }
-    (opcode - (FIRST_PUSH - 1)) as usize
 }
 
-// From a walked opcode on, the place of the first that pushes data or is not allowed; the code's length if there is none. Most opcodes
-// push nothing: here the place of the next one is known before this one is read, so a processor reads ahead.
-fn plain_end(mask: &[u8], code: &[u8], from: usize) -> usize
-    requires { (length mask.now ≡ word_bytes) × (length code.now ≤ greatest_code) × (from ≤ length code.now) }
-    ensures { (from ≤ result) × (walk mask.now 0 (drop from code.now) ≡ walk mask.now 0 (drop result code.now)) }
+// The place of the first opcode that pushes data or is not allowed. Most opcodes push nothing: here the place of the next one is known
+// before this one is read, so a processor reads ahead.
+fn first_other(mask: &[u8], code: &[u8]) -> Option<usize>
+    requires { length mask.now ≡ word_bytes }
+    ensures { result ≡ position (λ k. not (data_bytes k == 0) || not (allowed mask.now k)) code.now }
 {
-    let mut i = from;
-    while i < code.len() {
-        let opcode = code[i];
-        if data_bytes(opcode) != 0 {
-            return i;
-        }
-        if !allowed(mask, opcode) {
-            return i;
-        }
-        i += 1;
-    }
-    i
+    code.iter().position(|opcode| data_bytes(*opcode) != 0 || !allowed(mask, *opcode))
 }
 
-// Whether every walked opcode is allowed. The code's length is bounded, so that no step of the walk can wrap.
+// Whether every walked opcode is allowed. The end of the code may cut an opcode's data.
 fn walk(mask: &[u8], code: &[u8]) -> bool
-    requires { (length mask.now ≡ word_bytes) × (length code.now ≤ greatest_code) }
+    requires { length mask.now ≡ word_bytes }
     ensures { result ≡ walk mask.now 0 code.now }
 {
-    let mut i: usize = 0;
-    while i < code.len() {
-        let at = plain_end(mask, code, i);
-        if code.len() <= at {
-            return true;
-        }
-        let opcode = code[at];
+    let mut rest = code;
+    while let Some(at) = first_other(mask, rest) {
+        let opcode = rest[at];
         if !allowed(mask, opcode) {
             return false;
         }
-        i = at + 1 + data_bytes(opcode);
+        rest = rest[at..].get(1 + data_bytes(opcode)..).unwrap_or_default();
     }
     true
 }
 
 // Whether the code passes the mask.
+#[tactic(auto, unfolding(rules::specs::Validation::passes))]
 pub fn passes(mask: &[u8], code: &[u8]) -> bool
     requires { length mask.now ≡ word_bytes }
     ensures { result ≡ passes mask.now code.now }
 {
-    if code.len() < 1 {
-        return false;
-    }
-    if rules::GREATEST_CODE < code.len() {
-        return false;
-    }
-    walk(mask, code)
+    (1..=rules::GREATEST_CODE).contains(&code.len()) && walk(mask, code)
 }

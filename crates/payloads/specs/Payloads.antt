@@ -1,9 +1,8 @@
--- What `payload` promises, for every message and answer: the part that it returns.
+-- What `payload` promises, for every message and reply: the part that it returns.
 use Rattle.std.specs.Prelude.{◌≡◌}
 use Rattle.rules.specs.Words.{Bytes}
-use Rattle.rules.specs.Source.{fields_with}
-use Rattle.rules.specs.declared.Answer.{Answer as Case}
+use Rattle.rules.specs.Source.{Reply, fields_of}
 
--- the payload of an answer to a message, whatever stands beside the answer in its reply
-abbrev pub PayloadPromise : (message : Bytes) → Case → (payload : Bytes) → Type 0
-PayloadPromise m answer payload = (address value : Bytes) → payload ≡ (fields_with answer address value m).payload
+-- the payload of a reply to a message
+abbrev pub PayloadPromise : (message : Bytes) → Reply → (payload : Bytes) → Type 0
+PayloadPromise m reply payload = payload ≡ (fields_of reply m).payload

@@ -22,24 +22,18 @@ struct State {
 }
 
 // The bytes that are left move to the front, and the input is read behind them.
-fn read_more<R: Read>(
-    from: &mut R,
-    input: &mut [u8],
-    start: usize,
-    end: usize,
-    long: bool,
-) -> io::Result<State>
-    requires { (start ≤ end) × (end ≤ length input.old) }
+fn read_more<R: Read>(from: &mut R, input: &mut [u8], left: State) -> io::Result<State>
+    requires { Within left input.old }
     ensures ok { IfOk result (λ s. Within s input.new) }
     ensures err { OnErr result (length input.new ≡ length input.old) }
 {
-    moves::shift_left(&mut input[0..end], start);
-    let kept = end - start;
+    input.copy_within(left.start..left.end, 0);
+    let kept = left.end - left.start;
     let n = from.read(&mut input[kept..])?;
     Ok(State {
         start: 0,
         end: kept + n,
-        long,
+        long: left.long,
         more: n != 0,
     })
 }
@@ -58,21 +52,19 @@ fn turn<R: Read, W: Write>(
     ensures ok { IfOk result (λ s. Within s input.new) }
     ensures err { OnErr result (length input.new ≡ length input.old) }
 {
-    let start = state.start;
-    let end = state.end;
-    let fed = feeding::feed(t, &input[start..end], state.long, out);
-    let used = fed.used;
-    to.write_all(&out[0..used])?;
-    let rest = start + fed.taken;
+    let fed = feeding::feed(t, &input[state.start..state.end], state.long, out);
+    to.write_all(&out[..fed.used])?;
+    let left = State {
+        start: state.start + fed.taken,
+        end: state.end,
+        long: fed.long,
+        more: true,
+    };
     if fed.full {
-        return Ok(State {
-            start: rest,
-            end,
-            long: fed.long,
-            more: true,
-        });
+        Ok(left)
+    } else {
+        read_more(from, input, left)
     }
-    read_more(from, input, rest, end, fed.long)
 }
 
 // A proved loop has to end, and nothing says that the input does: it counts its turns, up to a number that no run uses up.
@@ -97,10 +89,8 @@ fn run<R: Read, W: Write>(
         }
         state = turn(from, to, t, input, out, state)?;
     }
-    let start = state.start;
-    let end = state.end;
-    let used = feeding::finish(t, &input[start..end], state.long, out);
-    to.write_all(&out[0..used])
+    let used = feeding::finish(t, &input[state.start..state.end], state.long, out);
+    to.write_all(&out[..used])
 }
 
 fn main(rt: HostRuntime) -> io::Result<()> {

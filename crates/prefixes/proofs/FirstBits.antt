@@ -2,7 +2,7 @@
 -- of the number that they stand for. So two keys agree in their first bits where they agree in both digits.
 use Prim.Native.Nat.{ℕ, zero, suc, ◌+◌, ◌*◌, ◌-◌, ◌/◌, ◌%◌, ◌^◌, ◌≤◌, ◌<◌}
 use native.Mathlib.Omega.{arith}
-use native.Mathlib.Nat.{add-zero, sub-zero, mul-add-div_right, pow-suc}
+use native.Mathlib.Nat.{add-zero, mul-add-div_right, pow-suc}
 use mathlib.Core.Path.{◌≡◌, refl, sym, ap, ap₂, ◌∙◌}
 use mathlib.Core.Logic.{◌≢◌, ◌⊎◌, inl, inr}
 use mathlib.Core.Bool.{Bool, true, false, ◌&&◌, and-true}
@@ -120,18 +120,18 @@ module _ {s : ℕ} {a b : Bytes} (k : Compared s a b) where
       ∙ ap₂ eqb (first-digits a is_a k.size_a (s / 8) (s % 8) small fits) (first-digits b is_b k.size_b (s / 8) (s % 8) small fits)
       ∙ eqb-digits (2 ^ (s % 8)) _ _ _ _ (digit-fits a is_a (s / 8) (s % 8) small) (digit-fits b is_b (s / 8) (s % 8) small)
 
-  -- the whole bytes, as the code lends them
-  lent : {r t : Bool} → r ≡ eqb (num (take (s / 8 - 0) a)) (num (take (s / 8 - 0) b)) → r ≡ t → same_whole ≡ t
-  lent p e = rw (sub-zero (s / 8)) at (sym p ∙ e)
+  -- the whole bytes, as the code answers
+  told : {r t : Bool} → r ≡ same_whole → r ≡ t → same_whole ≡ t
+  told p e = sym p ∙ e
 
-  pub whole-differ : {r : Bool} → r ≡ eqb (num (take (s / 8 - 0) a)) (num (take (s / 8 - 0) b)) → r ≡ false → false ≡ same_first
-  whole-differ p e = sym (both ∙ rw (lent p e))
+  pub whole-differ : {r : Bool} → r ≡ same_whole → r ≡ false → false ≡ same_first
+  whole-differ p e = sym (both ∙ rw (told p e))
 
-  pub part-decides : {r t : Bool} → r ≡ eqb (num (take (s / 8 - 0) a)) (num (take (s / 8 - 0) b)) → r ≡ true → t ≡ same_part → t ≡ same_first
-  part-decides p e q = q ∙ sym (both ∙ rw (lent p e))
+  pub part-decides : {r t : Bool} → r ≡ same_whole → r ≡ true → t ≡ same_part → t ≡ same_first
+  part-decides p e q = q ∙ sym (both ∙ rw (told p e))
 
   -- without a partial byte, no bit of the byte behind them is compared
-  pub whole-decides : {r : Bool} → r ≡ eqb (num (take (s / 8 - 0) a)) (num (take (s / 8 - 0) b)) → r ≡ true → s % 8 ≡ 0 → true ≡ same_first
+  pub whole-decides : {r : Bool} → r ≡ same_whole → r ≡ true → s % 8 ≡ 0 → true ≡ same_first
   whole-decides p e z = part-decides p e (sym (eq-eqb _ _ (none a k.values_a ∙ sym (none b k.values_b))))
     where
       none : (bs : Bytes) → ((i : ℕ) → get_or bs i 0 < 256) → get_or bs (s / 8) 0 / 2 ^ (8 - s % 8) ≡ 0

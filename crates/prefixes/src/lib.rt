@@ -6,9 +6,6 @@ ghost use Rattle.rules.specs.Capabilities.{prefix, first_bits};
 ghost use Rattle.rules.specs.Capabilities.{covers_key, within_prefix};
 ghost use Rattle.prefixes.specs.Prefixes.{KeyPart};
 
-// Where in a word a key begins.
-const KEY_AT: usize = rules::WORD_BYTES - rules::KEY_BYTES;
-
 // Whether the first s bits of two keys are equal: the whole bytes, and then what a mask leaves of the last partial one.
 pub fn same_first_bits(s: usize, a: &[u8], b: &[u8]) -> bool
     requires { (s ≤ 8 * key_bytes) × (length a.now ≡ key_bytes) × (length b.now ≡ key_bytes) }
@@ -16,15 +13,7 @@ pub fn same_first_bits(s: usize, a: &[u8], b: &[u8]) -> bool
 {
     let whole = s / 8;
     let part = s % 8;
-    if words::same(&a[0..whole], &b[0..whole]) {
-        if part == 0 {
-            true
-        } else {
-            same_part(part, a[whole], b[whole])
-        }
-    } else {
-        false
-    }
+    words::same(&a[..whole], &b[..whole]) && (part == 0 || same_part(part, a[whole], b[whole]))
 }
 
 // Whether the first `part` bits of two bytes are equal.
@@ -44,12 +33,13 @@ pub fn prefix_of(capability: &[u8]) -> usize
     capability[0] as usize
 }
 
-// The last 24 bytes of a word: the base key of a prefix capability, or the key in a key word.
+// The last 24 bytes of a word: the base key of a prefix capability, or the key in a key word. (`key_words::key_part` lends the same bytes,
+// and promises their number; a caller cannot tell bytes from a number, so here the bytes themselves are promised.)
 pub fn key_part(word: &[u8]) -> &[u8]
     requires { length word.now ≡ word_bytes }
     ensures { KeyPart word.now result.now }
 {
-    &word[KEY_AT..rules::WORD_BYTES]
+    &word[key_words::KEY_AT..]
 }
 
 // Whether a prefix capability covers a key: the key's first bits are those of the base.
@@ -69,9 +59,5 @@ pub fn within_prefix(b: &[u8], a: &[u8]) -> bool
 {
     let a_prefix = prefix_of(a);
     let b_prefix = prefix_of(b);
-    if a_prefix <= b_prefix {
-        same_first_bits(a_prefix, key_part(b), key_part(a))
-    } else {
-        false
-    }
+    a_prefix <= b_prefix && same_first_bits(a_prefix, key_part(b), key_part(a))
 }

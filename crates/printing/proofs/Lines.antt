@@ -54,7 +54,7 @@ payload_in (registered n) = []
 payload_in (looked v) = []
 
 pub printed-reply : (a : Answer) → printed_reply (reply_of a) (payload_in a) ≡ printed a
-unfolding printed_reply reply_of refused_reply printed_flag printed_fields payload_in printed
+unfolding printed_reply reply_of printed_flag printed_fields payload_in printed
 printed-reply (refused c) = refl
 printed-reply done = refl
 printed-reply (called a p) = refl

@@ -1,30 +1,26 @@
 -- What is printed for a reply of the source; for one that stands for an answer it is what the rules print (`printed-reply`).
-use Rattle.std.specs.Prelude.{ℕ, ◌+◌, ◌*◌, [], ◌∷◌, ◌++◌}
+use Rattle.std.specs.Prelude.{ℕ, ◌+◌, ◌*◌, [], ◌∷◌, ◌++◌, Ok, Err}
 use Rattle.rules.specs.Words.{Bytes}
 use Rattle.rules.specs.Answers.{code_bytes}
 use Rattle.rules.specs.Program.{line_feed, space, question_mark, decimal, spaced}
-use Rattle.rules.specs.declared.Answer.{Answer as Case}
-use Rattle.rules.specs.declared.Answer.TheVariants.{Refused, Done, Called, Registered, Looked}
-use Rattle.rules.specs.declared.Reply.{Reply}
+use Rattle.rules.specs.declared.Success.TheVariants.{Done, Called, Registered, Looked}
+use Rattle.rules.specs.Source.{Reply}
 
 -- the flag's digit
-unfoldable pub printed_flag : Case → ℕ
-printed_flag (Refused c) = 0x30
-printed_flag Done = 0x31
-printed_flag Called = 0x31
-printed_flag (Registered n) = 0x31
-printed_flag Looked = 0x31
+unfoldable pub printed_flag : Reply → ℕ
+printed_flag (Ok success) = 0x31
+printed_flag (Err c) = 0x30
 
 -- the fields after it, each with its space
-unfoldable pub printed_fields : Case → (address value payload : Bytes) → Bytes
-printed_fields (Refused c) a v p = spaced (code_bytes c.0)
-printed_fields Done a v p = []
-printed_fields Called a v p = spaced a ++ spaced p
-printed_fields (Registered n) a v p = space ∷ decimal n
-printed_fields Looked a v p = spaced v
+unfoldable pub printed_fields : Reply → (payload : Bytes) → Bytes
+printed_fields (Ok Done) p = []
+printed_fields (Ok (Called a)) p = spaced a ++ spaced p
+printed_fields (Ok (Registered n)) p = space ∷ decimal n
+printed_fields (Ok (Looked v)) p = spaced v
+printed_fields (Err c) p = spaced (code_bytes c.0)
 
 unfoldable pub printed_reply : Reply → (payload : Bytes) → Bytes
-printed_reply r p = printed_flag r.answer ∷ printed_fields r.answer r.address r.value p
+printed_reply r p = printed_flag r ∷ printed_fields r p
 
 -- the line that is printed for a line without a message
 unfoldable pub other_line : Bytes

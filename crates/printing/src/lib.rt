@@ -6,7 +6,7 @@ ghost use Rattle.rules.specs.Program.{line_feed, space, decimal, spaced};
 ghost use Rattle.writing.specs.Wrote.{Wrote};
 ghost use Rattle.printing.specs.Printing.{printed_flag, printed_fields, printed_reply, other_line, fields_room, line_room};
 
-use rules::{Answer, Reply};
+use rules::{Reply, Success};
 
 // Room for a line but its payload.
 pub const LINE_ROOM: usize = 68;
@@ -17,7 +17,7 @@ fn put_spaced(out: &mut [u8], at: usize, bytes: &[u8]) -> usize
     ensures wrote { Wrote out.old at (spaced bytes.now) result out.new }
     ensures upper_bound { result ≤ at + (1 + 2 * length bytes.now) }
 {
-    if bytes.len() == 0 {
+    if bytes.is_empty() {
         return at;
     }
     let end = writing::put(out, at, b' ');
@@ -51,34 +51,28 @@ fn put_number(out: &mut [u8], at: usize, n: u64) -> usize
 // The fields after the flag.
 fn put_fields(out: &mut [u8], at: usize, reply: Reply, payload: &[u8]) -> usize
     requires { at + fields_room (length payload.now) ≤ length out.old }
-    ensures wrote { Wrote out.old at (printed_fields reply.answer reply.address reply.value payload.now) result out.new }
+    ensures wrote { Wrote out.old at (printed_fields reply payload.now) result out.new }
     ensures upper_bound { result ≤ at + fields_room (length payload.now) }
 {
-    let answer = reply.answer;
-    let address = reply.address;
-    let value = reply.value;
-    match answer {
-        Answer::Refused(code) => put_code(out, at, code.0),
-        Answer::Done => at,
-        Answer::Called => {
+    match reply {
+        Ok(Success::Done) => at,
+        Ok(Success::Called(address)) => {
             let end = put_spaced(out, at, &address);
             put_spaced(out, end, payload)
         }
-        Answer::Registered(tests) => put_number(out, at, tests),
-        Answer::Looked => put_spaced(out, at, &value),
+        Ok(Success::Registered(tests)) => put_number(out, at, tests),
+        Ok(Success::Looked(value)) => put_spaced(out, at, &value),
+        Err(refusal) => put_code(out, at, refusal.0),
     }
 }
 
 // The flag.
-fn flag(answer: Answer) -> u8
-    ensures { result ≡ printed_flag answer }
+fn flag(reply: Reply) -> u8
+    ensures { result ≡ printed_flag reply }
 {
-    match answer {
-        Answer::Refused(_) => b'0',
-        Answer::Done => b'1',
-        Answer::Called => b'1',
-        Answer::Registered(_) => b'1',
-        Answer::Looked => b'1',
+    match reply {
+        Ok(_) => b'1',
+        Err(_) => b'0',
     }
 }
 
@@ -87,8 +81,7 @@ pub fn print(out: &mut [u8], at: usize, reply: Reply, payload: &[u8]) -> usize
     requires { at + line_room (length payload.now) ≤ length out.old }
     ensures { Wrote out.old at (printed_reply reply payload.now ++ (line_feed ∷ [])) result out.new }
 {
-    let answer = reply.answer;
-    let fields = writing::put(out, at, flag(answer));
+    let fields = writing::put(out, at, flag(reply));
     let end = put_fields(out, fields, reply, payload);
     writing::put(out, end, b'\n')
 }

@@ -35,13 +35,11 @@ fn put_kinds(t: &mut [u8], used: usize, procedure: &[u8], d: &[u8]) -> usize
 {
     let counts = series::requested(d);
     let mut stored = used;
-    let mut number = Kind::CALL.0;
-    while number <= Kind::WRITE.0 {
-        let slot = slots::count_slot(procedure, Kind(number));
-        let count = counts[number as usize];
+    for kind in Kind::ALL {
+        let count = counts[kind.0 as usize];
+        let slot = slots::count_slot(procedure, kind);
         stored = storing::put(t, stored, &slot, &right::number_word(count));
-        stored = capability_records::put_kind(t, stored, procedure, Kind(number), count, d);
-        number += 1;
+        stored = capability_records::put_kind(t, stored, procedure, kind, count, d);
     }
     stored
 }

@@ -1,7 +1,6 @@
 -- Set-up looks only at the table's length: so every table of full size becomes the one that the rules name.
-use Prim.Native.Nat.{ℕ}
-use mathlib.Core.Path.{◌≡◌, sym, ap, ◌∙◌}
-use lib.ListN.{length, replicate, length-replicate}
+use Rattle.std.proofs.Common.{ℕ, ◌≡◌, sym, ap, ◌∙◌, length, replicate}
+use Rattle.std.proofs.Math.ListN.{length-replicate}
 use Rattle.rules.specs.Words.{Bytes, key_bytes, address_bytes, bytes_of, num}
 use Rattle.rules.specs.Table.{greatest_table, Store, bytes}
 use Rattle.rules.specs.Answers.{done, Result, change, outcome, ◌then◌}

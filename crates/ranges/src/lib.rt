@@ -9,22 +9,15 @@ pub fn covers_address(a: &[u8], n: &[u8], x: &[u8]) -> bool
     requires { (length a.now ≡ word_bytes) × (length n.now ≡ word_bytes) × (length x.now ≡ word_bytes) }
     ensures { result ≡ covers_address (num a.now ∷ num n.now ∷ []) (num x.now) }
 {
-    if words::at_most(a, x) {
-        words::sums_at_most(x, &[0u8; rules::WORD_BYTES], a, n)
-    } else {
-        false
-    }
+    within_range(x, &[0u8; rules::WORD_BYTES], a, n)
 }
 
 // Whether the Write capability (b, m) lies within (a, n): a ≤ b and b + m ≤ a + n.
+#[tactic(auto, unfolding(rules::specs::Capabilities::within_range, rules::specs::Capabilities::word_of))]
 pub fn within_range(b: &[u8], m: &[u8], a: &[u8], n: &[u8]) -> bool
     requires b_len { (length b.now ≡ word_bytes) × (length m.now ≡ word_bytes) }
     requires a_len { (length a.now ≡ word_bytes) × (length n.now ≡ word_bytes) }
     ensures { result ≡ within_range (num b.now ∷ num m.now ∷ []) (num a.now ∷ num n.now ∷ []) }
 {
-    if words::at_most(a, b) {
-        words::sums_at_most(b, m, a, n)
-    } else {
-        false
-    }
+    words::at_most(a, b) && words::sums_at_most(b, m, a, n)
 }

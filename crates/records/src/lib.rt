@@ -5,7 +5,7 @@ ghost use Rattle.rules.specs.Words.{word_bytes, num, word};
 ghost use Rattle.rules.specs.Table.{get, store, record_form};
 ghost use Rattle.finding.specs.Finding.{keys_below};
 
-pub use finding::{Place, find, find_near, keys_below};
+pub use finding::{find, find_near, keys_below};
 
 // How many records have at most the given key.
 pub fn keys_through(t: &[u8], used: usize, key: &[u8]) -> usize
@@ -15,8 +15,8 @@ pub fn keys_through(t: &[u8], used: usize, key: &[u8]) -> usize
     ensures { result ≡ keys_below (store t.now) (num key.now + 1) }
 {
     match finding::find(t, used, key) {
-        Place::Has(i) => i + 1,
-        Place::Gap(i) => i,
+        Ok(i) => i + 1,
+        Err(i) => i,
     }
 }
 
@@ -28,8 +28,8 @@ pub fn look(t: &[u8], used: usize, key: &[u8]) -> [u8; rules::WORD_BYTES]
     ensures { result ≡ word (get (store t.now) (num key.now)) }
 {
     match finding::find(t, used, key) {
-        Place::Has(i) => moves::read(moves::word_at(t, rules::RECORD_SIZE * i + rules::WORD_BYTES)),
-        Place::Gap(_) => [0; rules::WORD_BYTES],
+        Ok(i) => moves::read(moves::word_at(t, rules::RECORD_SIZE * i + rules::WORD_BYTES)),
+        Err(_) => [0; rules::WORD_BYTES],
     }
 }
 
@@ -42,12 +42,12 @@ pub fn look_near(to: &mut [u8], t: &[u8], used: usize, guess: usize, key: &[u8])
     ensures { (to.new ≡ word (get (store t.now) (num key.now))) × (result ≡ keys_below (store t.now) (num key.now + 1)) }
 {
     match finding::find_near(t, used, guess, key) {
-        Place::Has(i) => {
+        Ok(i) => {
             let value_at = rules::RECORD_SIZE * i + rules::WORD_BYTES;
             moves::copy_word(to, moves::word_at(t, value_at));
             i + 1
         }
-        Place::Gap(i) => {
+        Err(i) => {
             moves::clear(to);
             i
         }

@@ -1,4 +1,5 @@
 -- Register's row up to the room: each return of the code is a place in it.
+use Rattle.std.proofs.Common.{Some, None}
 use Prim.Native.Nat.{ℕ, ◌≤◌}
 use native.Mathlib.Omega.{arith}
 use mathlib.Core.Path.{◌≡◌, refl, sym, ap, ◌∙◌}
@@ -14,13 +15,11 @@ use Rattle.rules.specs.Messages.{series_of, malformed, key_word, address_word, r
 use Rattle.rules.specs.Validation.{passes as code_passes}
 use Rattle.rules.specs.Answers.{e4, x33, e9, e5, x77, e1, e8, code_number, ◌then◌, outcome}
 use Rattle.rules.specs.Calls.{is_zero, greatest_list, contained, tests, too_many, register_row, register_effect}
-use Rattle.rules.specs.Source.{refused_reply}
-use Rattle.rules.specs.declared.Reply.{Reply}
+use Rattle.rules.specs.Source.{refused_reply, Reply}
 use Rattle.laws.proofs.Numbers.{non_zero}
 use Rattle.words.specs.Words.{Holds}
 use Rattle.listing.specs.Listings.{Listing}
 use Rattle.grants.specs.Grants.{Granted}
-use Rattle.grants.specs.declared.Grant.{Grant}
 use Rattle.results.specs.Results.{Gives}
 use Rattle.results.proofs.Rows.{refusal, refuses, passes, denied}
 use Rattle.acting.specs.Acting.{ActsOn, Permits}
@@ -33,43 +32,38 @@ acts-on-procedure n h = acts-on-key register refl (record { long = omega (arith,
 
 -- from the requests on
 module _ (t d : Bytes) {m : Bool} (e : m ≡ too_many (requests d)) where
-  pub register-too-many : m ≡ true → {r : Reply} → r ≡ refused_reply (code_number x77) → Gives (outcome t (on_requests (room t) (store t) d)) r t
+  pub register-too-many : m ≡ true → Gives (outcome t (on_requests (room t) (store t) d)) (refused_reply (code_number x77)) t
   unfolding register_row
-  register-too-many q f = rw (refuses (sym e ∙ q)) (refusal t x77 f)
+  register-too-many q = rw (refuses (sym e ∙ q)) (refusal t x77)
 
-  module _ (few : m ≡ false) {g : Grant} (judged : Granted (store t) (requests d) g) where
-    is-granted : {b : Bool} → g.contained ≡ b → not (all_of (contained (store t)) (requests d)) ≡ not b
-    is-granted q = ap not (sym judged.contained ∙ q)
-
-    pub register-not-granted : g.contained ≡ false → {r : Reply} → r ≡ refused_reply (code_number x33)
-        → Gives (outcome t (on_requests (room t) (store t) d)) r t
+  module _ (few : m ≡ false) where
+    pub register-not-granted : Granted (store t) (requests d) None → Gives (outcome t (on_requests (room t) (store t) d)) (refused_reply (code_number x33)) t
     unfolding register_row
-    register-not-granted q f = rw (passes (sym e ∙ few), refuses (is-granted q)) (refusal t x33 f)
+    register-not-granted denied = rw (passes (sym e ∙ few), refuses (ap not denied)) (refusal t x33)
 
-    module _ (granted : g.contained ≡ true) {key : Bytes} (k : Holds key_bytes key (key_word d)) {l : Bool} (h : l ≡ listed (store t) (num key)) where
-      pub register-listed : l ≡ true → {r : Reply} → r ≡ refused_reply (code_number e1) → Gives (outcome t (on_requests (room t) (store t) d)) r t
+    module _ {n : ℕ} (granted : Granted (store t) (requests d) (Some n)) {key : Bytes} (k : Holds key_bytes key (key_word d)) {l : Bool}
+        (h : l ≡ listed (store t) (num key)) where
+      pub register-listed : l ≡ true → Gives (outcome t (on_requests (room t) (store t) d)) (refused_reply (code_number e1)) t
       unfolding register_row
-      register-listed q f = rw (passes (sym e ∙ few), passes (is-granted granted), refuses (listed-judged t k h q)) (refusal t e1 f)
+      register-listed q = rw (passes (sym e ∙ few), passes (ap not granted.0), refuses (listed-judged t k h q)) (refusal t e1)
 
       module _ (unlisted : l ≡ false) {used places : ℕ} (list : Listing t used places) where
-        pub register-list-full : places ≡ greatest_list → {r : Reply} → r ≡ refused_reply (code_number e8)
-            → Gives (outcome t (on_requests (room t) (store t) d)) r t
+        pub register-list-full : places ≡ greatest_list → Gives (outcome t (on_requests (room t) (store t) d)) (refused_reply (code_number e8)) t
         unfolding register_row
-        register-list-full q f =
+        register-list-full q =
             let full = eq-eqb (list_length (store t)) greatest_list (sym list.all ∙ q) in
-            rw (passes (sym e ∙ few), passes (is-granted granted), passes (listed-judged t k h unlisted), refuses full) (refusal t e8 f)
+            rw (passes (sym e ∙ few), passes (ap not granted.0), passes (listed-judged t k h unlisted), refuses full) (refusal t e8)
 
         pub appendable : Judgeable d → places ≤ greatest_list → Appendable t places d
         appendable j short =
             record { judged = j; few = sym e ∙ few; all = list.all; short = short; unlisted = listed-judged t k h unlisted }
 
-        pub register-rest : (places ≡ greatest_list → ⊥) → {r : Reply} {t' : Bytes} → Gives (outcome t (on_room (room t) (store t) d g.tests)) r t'
+        pub register-rest : (places ≡ greatest_list → ⊥) → {r : Reply} {t' : Bytes} → Gives (outcome t (on_room (room t) (store t) d n)) r t'
             → Gives (outcome t (on_requests (room t) (store t) d)) r t'
         unfolding register_row
         register-rest q {r} {t'} f =
             let space = ne_eqb (list_length (store t)) greatest_list (λ z. q (list.all ∙ z)) in
-            let counted = judged.tests granted in
-            rw (passes (sym e ∙ few), passes (is-granted granted), passes (listed-judged t k h unlisted), passes space) (rw counted at f)
+            rw (passes (sym e ∙ few), passes (ap not granted.0), passes (listed-judged t k h unlisted), passes space) (rw granted.1 at f)
 
 -- before the requests
 module _ (t d code mask : Bytes) {x : Bytes} (named : Holds word_bytes x (key_word d)) {i : Bool} (e : i ≡ eqb (num x) 0) where
@@ -81,40 +75,40 @@ module _ (t d code mask : Bytes) {x : Bytes} (named : Holds word_bytes x (key_wo
   unfolding is_zero
   zero-key q = ap (λ (y : ℕ). eqb y 0) (sym named.number) ∙ sym e ∙ q
 
-  pub register-zero-key : i ≡ true → {r : Reply} → r ≡ refused_reply (code_number e4) → row r t
+  pub register-zero-key : i ≡ true → row (refused_reply (code_number e4)) t
   unfolding register_row
-  register-zero-key q f = rw (refuses (zero-key q)) (refusal t e4 f)
+  register-zero-key q = rw (refuses (zero-key q)) (refusal t e4)
 
   module _ (key : i ≡ false) {y : Bytes} (address : Holds word_bytes y (address_word d)) {j : Bool} (g : j ≡ eqb (num y) 0) where
     zero-address : {b : Bool} → j ≡ b → is_zero (address_word d) ≡ b
     unfolding is_zero
     zero-address q = ap (λ (z : ℕ). eqb z 0) (sym address.number) ∙ sym g ∙ q
 
-    pub register-zero-address : j ≡ true → {r : Reply} → r ≡ refused_reply (code_number e4) → row r t
+    pub register-zero-address : j ≡ true → row (refused_reply (code_number e4)) t
     unfolding register_row
-    register-zero-address q f = rw (passes (zero-key key), refuses (zero-address q)) (refusal t e4 f)
+    register-zero-address q = rw (passes (zero-key key), refuses (zero-address q)) (refusal t e4)
 
     module _ (present : j ≡ false) {p : Bool}
         (h : Permits t d (number register) (num x) p) where
-      pub register-not-covered : p ≡ false → {r : Reply} → r ≡ refused_reply (code_number x33) → row r t
+      pub register-not-covered : p ≡ false → row (refused_reply (code_number x33)) t
       unfolding register_row
-      register-not-covered q f =
-          rw (passes (zero-key key), passes (zero-address present), not-permitted t d register (key_word d) named h q) (refusal t x33 f)
+      register-not-covered q =
+          rw (passes (zero-key key), passes (zero-address present), not-permitted t d register (key_word d) named h q) (refusal t x33)
 
       module _ (may : p ≡ true) {c : Bool} (v : c ≡ code_passes mask code) where
         code_is : {b : Bool} → c ≡ b → not (code_passes mask code) ≡ not b
         code_is q = ap not (sym v ∙ q)
 
-        pub register-code-fails : c ≡ false → {r : Reply} → r ≡ refused_reply (code_number e9) → row r t
+        pub register-code-fails : c ≡ false → row (refused_reply (code_number e9)) t
         unfolding register_row
-        register-code-fails q f =
+        register-code-fails q =
             rw (passes (zero-key key), passes (zero-address present), permitted t d register (key_word d) named h may, refuses (code_is q))
-            (refusal t e9 f)
+            (refusal t e9)
 
         module _ (valid : c ≡ true) {w : Bool} (s : w ≡ not (malformed (series_of d))) where
-          pub register-malformed : w ≡ false → {r : Reply} → r ≡ refused_reply (code_number e5) → row r t
+          pub register-malformed : w ≡ false → row (refused_reply (code_number e5)) t
           unfolding register_row
-          register-malformed q f =
+          register-malformed q =
               rw (
                 passes (zero-key key),
                 passes (zero-address present),
@@ -122,7 +116,7 @@ module _ (t d code mask : Bytes) {x : Bytes} (named : Holds word_bytes x (key_wo
                 passes (code_is valid),
                 refuses (denied s q),
               )
-              (refusal t e5 f)
+              (refusal t e5)
 
           pub judgeable : NamesProcedure d → w ≡ true → Judgeable d
           unfolding is_zero series_of

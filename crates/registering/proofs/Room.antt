@@ -1,5 +1,6 @@
 -- The room that a registration needs: a key that is not listed has no record in a sound table, so each record of the new
 -- procedure whose value is not zero is one more. The sum that the code compares is then the length of the store afterwards.
+use Rattle.std.proofs.Common.{Ok}
 use Prim.Native.Nat.{ℕ, suc, ◌+◌, ◌/◌, ◌^◌, ◌≤◌, ◌<◌}
 use native.Mathlib.Omega.{arith}
 use mathlib.Core.Path.{◌≡◌}
@@ -15,8 +16,8 @@ use Rattle.rules.specs.Sound.{IsKey, IsAddress}
 use Rattle.rules.specs.Messages.{key_too_long, address_too_long, key_word, address_word, requests}
 use Rattle.rules.specs.Answers.{e7, code_number, registered, outcome}
 use Rattle.rules.specs.Calls.{no_room, kind_records, after_register, register_row}
-use Rattle.rules.specs.Source.{refused_reply, reply_of}
-use Rattle.rules.specs.declared.Reply.{Reply}
+use Rattle.rules.specs.Source.{refused_reply, reply_of, Reply}
+use Rattle.rules.specs.declared.Success.TheVariants.{Registered}
 use Rattle.laws.proofs.TableDecides.{sound_table-good}
 use Rattle.laws.proofs.TableRecords.{formed}
 use Rattle.laws.proofs.SeriesRequests.{requests-storable}
@@ -76,12 +77,11 @@ module _ {t : Bytes} {used : ℕ} (g : SoundWith t used) {places : ℕ} (d : Byt
         let form = formed t (occupied g).form in
         omega (arith, form.few, form.fits, g.count, q.small, a.judged.names.not_longer)
 
-    pub register-no-room : length t / record_size < used + 3 + n → (m : ℕ) {r : Reply} → r ≡ refused_reply (code_number e7)
-        → Gives (outcome t (on_room (room t) (store t) d m)) r t
+    pub register-no-room : length t / record_size < used + 3 + n → (m : ℕ) → Gives (outcome t (on_room (room t) (store t) d m)) (refused_reply (code_number e7)) t
     unfolding register_row no_room room
-    register-no-room h m f =
+    register-no-room h m =
         let full : ltb (length t / record_size) (length after) ≡ true = lt-ltb (length t / record_size) (length after) (omega (arith, needed, h)) in
-        rw (refuses full) (refusal t e7 f)
+        rw (refuses full) (refusal t e7)
 
     module _ (h : used + 3 + n ≤ length t / record_size) where
       -- what is asked of the key and the address, in bytes
@@ -107,8 +107,8 @@ module _ {t : Bytes} {used : ℕ} (g : SoundWith t used) {places : ℕ} (d : Byt
 
       pub register-done : {key address : Bytes} → Holds key_bytes key (key_word d) → Holds word_bytes address (address_word d)
           → {t' : Bytes} {used' : ℕ} → Stored (length t) t' used' (after_register (store t) (num key) (num address) (requests d))
-          → (m : ℕ) {r : Reply} → r ≡ reply_of (registered m) → Gives (outcome t (on_room (room t) (store t) d m)) r t'
-      unfolding register_row no_room room
-      register-done k v s m f =
+          → (m : ℕ) → Gives (outcome t (on_room (room t) (store t) d m)) (Ok (Registered m)) t'
+      unfolding register_row no_room room reply_of
+      register-done k v s m =
           let space : ltb (length t / record_size) (length after) ≡ false = le-ltb (length t / record_size) (length after) (omega (arith, needed, h)) in
-          rw (passes space, ends) (changes t _ _ f (rw (k.number, v.number) at s.table))
+          rw (passes space, ends) (changes t _ _ (rw (k.number, v.number) at s.table))

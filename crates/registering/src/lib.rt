@@ -10,7 +10,7 @@ ghost use Rattle.rules.specs.Calls.{tests, register_row, register_effect};
 ghost use Rattle.results.specs.Results.{SoundWith, Gives};
 ghost use Rattle.registering.specs.Registering.{NamesProcedure, Appendable, Judgeable, on_room, on_requests};
 
-use rules::{Kind, Refusal, Reply};
+use rules::{Kind, Refusal, Reply, Success};
 
 // The last of the row: 66 e7; then the procedure is appended.
 fn append_if_room(t: &mut [u8], used: usize, places: usize, d: &[u8], tests: u64) -> Reply
@@ -22,7 +22,7 @@ fn append_if_room(t: &mut [u8], used: usize, places: usize, d: &[u8], tests: u64
     // A new procedure has a record for its place, its address and its index; the list length has one already.
     let after = used + 3 + needed;
     if t.len() / rules::RECORD_SIZE < after {
-        return Reply::refused(Refusal::NO_ROOM);
+        return Err(Refusal::NO_ROOM);
     }
     appending::append(
         t,
@@ -33,7 +33,7 @@ fn append_if_room(t: &mut [u8], used: usize, places: usize, d: &[u8], tests: u64
         d,
         needed,
     );
-    Reply::registered(tests)
+    Ok(Success::Registered(tests))
 }
 
 // From the series on: 66 77, 33 (requested), 66 e1, 66 e8; then the rest. Every request is judged before anything is stored.
@@ -43,20 +43,19 @@ fn judge_series(t: &mut [u8], used: usize, d: &[u8]) -> Reply
     ensures { Gives (outcome t.old (on_requests (room t.old) (store t.old) d.now)) result t.new }
 {
     if series::too_many(d) {
-        return Reply::refused(Refusal::TOO_MANY);
+        return Err(Refusal::TOO_MANY);
     }
-    let grant = grants::judge_requests(t, used, d);
-    if !grant.contained {
-        return Reply::refused(Refusal::NOT_COVERED);
-    }
+    let Some(tests) = grants::judge_requests(t, used, d) else {
+        return Err(Refusal::NOT_COVERED);
+    };
     if acting::is_listed(t, used, messages::key_of(d)) {
-        return Reply::refused(Refusal::ALREADY_LISTED);
+        return Err(Refusal::ALREADY_LISTED);
     }
     let places = soundness::list_length(t, used);
     if places == rules::GREATEST_LIST {
-        return Reply::refused(Refusal::LIST_FULL);
+        return Err(Refusal::LIST_FULL);
     }
-    append_if_room(t, used, places, d, grant.tests)
+    append_if_room(t, used, places, d, tests)
 }
 
 // Register: 66 e4, 33 (index, cover), 66 e9, 66 e5; then the requests.
@@ -68,19 +67,19 @@ pub fn register(t: &mut [u8], used: usize, d: &[u8], code: &[u8], mask: &[u8]) -
 {
     let key = messages::key_word(d);
     if words::is_zero(key) {
-        return Reply::refused(Refusal::ZERO);
+        return Err(Refusal::ZERO);
     }
     if words::is_zero(messages::address_word(d)) {
-        return Reply::refused(Refusal::ZERO);
+        return Err(Refusal::ZERO);
     }
     if !acting::permits(t, used, Kind::REGISTER, d, key) {
-        return Reply::refused(Refusal::NOT_COVERED);
+        return Err(Refusal::NOT_COVERED);
     }
     if !opcodes::passes(mask, code) {
-        return Reply::refused(Refusal::CODE_FAILS);
+        return Err(Refusal::CODE_FAILS);
     }
     if !series::well_formed(d) {
-        return Reply::refused(Refusal::MALFORMED_SERIES);
+        return Err(Refusal::MALFORMED_SERIES);
     }
     judge_series(t, used, d)
 }

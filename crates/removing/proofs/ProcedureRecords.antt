@@ -1,14 +1,7 @@
 -- A procedure's records stand together: their keys are those from its first slot to its last. So the store without them is
 -- what stands before the first slot's place and what stands behind the last slot's.
-use Prim.Native.Nat.{ℕ, zero, suc, ◌+◌, ◌*◌, ◌/◌, ◌-◌, ◌^◌, ◌≤◌, ◌<◌}
-use native.Mathlib.Omega.{arith}
-use mathlib.Core.Path.{◌≡◌, refl, sym, ap, ◌∙◌}
-use mathlib.Core.List.{[], ◌∷◌, ◌++◌}
-use mathlib.Core.Bool.{true, false}
-use lib.Dec.{lit<}
-use lib.ListN.{length, take, drop, length-append, length-take, length-drop}
+use Rattle.std.proofs.Common.{ℕ, zero, suc, ◌+◌, ◌*◌, ◌/◌, ◌-◌, ◌^◌, ◌≤◌, ◌<◌, arith, ◌≡◌, refl, sym, ap, ◌∙◌, [], ◌∷◌, ◌++◌, true, false, lit<, length, take, drop, length-append, length-take, length-drop, eq-eqb, ne_eqb}
 use lib.Seq.{drop-nil}
-use borrow.Author.Tests.{eq-eqb, ne_eqb}
 use Rattle.rules.specs.Words.{Bytes}
 use Rattle.rules.specs.Table.{Store, Record, Ascending, bytes, store, record_form}
 use Rattle.rules.specs.KernelStorage.{kernel_mark, slot, ending, address_slot}

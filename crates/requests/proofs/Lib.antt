@@ -1,5 +1,4 @@
 pub mod Types
-pub mod Small
 pub mod Here
 pub mod Read
 pub mod Steps

@@ -1,11 +1,8 @@
 -- The loop that judges the series: the requests before an offset are good, so the rest of the series decides.
-use Prim.Native.Nat.{ℕ, ◌+◌, ◌*◌, ◌-◌, ◌%◌, ◌≤◌, ◌<◌}
+use Rattle.std.proofs.Common.{ℕ, ◌+◌, ◌*◌, ◌-◌, ◌%◌, ◌≤◌, ◌<◌, ◌≡◌, refl, sym, ap, ◌∙◌, List, length, drop, true, false, not, None, Some}
+use Rattle.std.proofs.lemmas.Option.{none-some}
+use Rattle.std.proofs.Math.Option.{Option, none, some}
 use native.Mathlib.Omega.{arith}
-use mathlib.Core.Path.{◌≡◌, refl, sym, ap, ◌∙◌}
-use mathlib.Core.List.{List}
-use mathlib.Core.Bool.{true, false, not}
-use mathlib.Core.Option.{Option, none, some}
-use lib.ListN.{length, drop}
 use Rattle.rules.specs.Words.{Bytes}
 use Rattle.rules.specs.Capabilities.{word_count}
 use Rattle.rules.specs.Messages.{Request, add_request, series, series_at, series_of, malformed}
@@ -28,16 +25,22 @@ unfolding malformed add_request
 add-keeps r none = refl
 add-keeps r (some rs) = refl
 
+-- a request takes bytes, so the loop ends
+pub request-bytes : (o : Option Request) (b : ℕ) → Some b ≡ request_length o → 0 < b
+unfolding request_length
+request-bytes none b e = absurd (none-some b (sym e))
+request-bytes (some r) b e = let same : b ≡ 64 + 32 * length r.capability = cc in omega (arith, same)
+
 -- a request that has bytes is good, and one that has none is malformed
-pub walked_more : {d : Bytes} {at b : ℕ} → Walked d at → at < length d → b ≡ request_length (request_here d at) → (b ≡ 0 → ⊥)
+pub walked_more : {d : Bytes} {at b : ℕ} → Walked d at → at < length d → Some b ≡ request_length (request_here d at)
     → Walked d (at + b)
 unfolding request_length
-walked_more {d} {at} {b} w l e n = go (judge d at)
+walked_more {d} {at} {b} w l e = go (judge d at)
   where
     go : Judged d at → Walked d (at + b)
-    go (bad q) = absurd (n (e ∙ rw q))
+    go (bad q) = absurd (none-some b (sym (e ∙ rw q)))
     go (good kind g) =
-        let same : b ≡ 64 + 32 * word_count kind = e ∙ sym (good-bytes d at kind g) in
+        let same : b ≡ 64 + 32 * word_count kind = (let both = e ∙ sym (good-bytes d at kind g) in cc) in
         let next : at + 64 + 32 * word_count kind ≡ at + b = omega (arith, same) in
         record {
           within = omega (arith, same, g.within);
@@ -49,14 +52,14 @@ walked_more {d} {at} {b} w l e n = go (judge d at)
               ∙ ap (λ (i : ℕ). malformed (series (drop i d))) next;
         }
 
-pub walked_stop : {d : Bytes} {at : ℕ} → Walked d at → at < length d → 0 ≡ request_length (request_here d at)
+pub walked_stop : {d : Bytes} {at : ℕ} → Walked d at → at < length d → None ≡ request_length (request_here d at)
     → false ≡ not (malformed (series_of d))
 unfolding malformed
 walked_stop {d} {at} w l e = go (judge d at)
   where
     go : Judged d at → false ≡ not (malformed (series_of d))
     go (bad q) = sym (ap not (w.left ∙ ap malformed (series-bad d at l w.whole q)))
-    go (good kind g) = absurd (omega (arith, e, good-bytes d at kind g))
+    go (good kind g) = absurd (none-some _ (e ∙ sym (good-bytes d at kind g)))
 
 pub walked_all : {d : Bytes} {at : ℕ} → Walked d at → length d ≤ at → true ≡ not (malformed (series_of d))
 walked_all {d} {at} w l = sym (ap not (w.left ∙ well-formed-end d at l))

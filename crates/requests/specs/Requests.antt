@@ -1,5 +1,5 @@
 -- Register's series, read from a byte offset of the data on.
-use Rattle.std.specs.Prelude.{ℕ, ◌+◌, ◌*◌, ◌-◌, ◌/◌, ◌≡◌, List, true, false, ltb, length, drop}
+use Rattle.std.specs.Prelude.{ℕ, ◌+◌, ◌*◌, ◌-◌, ◌/◌, ◌≡◌, List, false, length, drop, Option as Length, None, Some}
 use Rattle.std.proofs.Math.Option.{Option, none, some}
 use Rattle.rules.specs.Words.{Bytes, word_bytes, word_at, words}
 use Rattle.rules.specs.Capabilities.{Kind, word_count}
@@ -17,10 +17,6 @@ requests_from d at = or_empty (series (drop at d))
 unfoldable pub capability_at : (d : Bytes) → Kind → (at : ℕ) → List ℕ
 capability_at d kind at = words (word_count kind) (drop at d)
 
--- a word's number if it fits a byte; otherwise 0, which is no CapSize and no CapType
-unfoldable pub small_of : ℕ → ℕ
-small_of w = elim (ltb w 256) [ true ↦ w | false ↦ 0 ]
-
 -- the whole words from an offset to the end
 unfoldable pub words_from : (d : Bytes) → (at : ℕ) → List ℕ
 words_from d at = words ((length d - at) / word_bytes) (drop at d)
@@ -29,7 +25,7 @@ words_from d at = words ((length d - at) / word_bytes) (drop at d)
 unfoldable pub request_here : (d : Bytes) → (at : ℕ) → Option Requested
 request_here d at = request_at (word_at d at) (words_from d (at + word_bytes))
 
--- the bytes of a request: CapSize, CapType and its words; 0 if it is malformed
-unfoldable pub request_length : Option Requested → ℕ
-request_length none = 0
-request_length (some r) = 2 * word_bytes + word_bytes * length r.capability
+-- the bytes of a request: CapSize, CapType and its words; none if it is malformed
+unfoldable pub request_length : Option Requested → Length ℕ
+request_length none = None
+request_length (some r) = Some (2 * word_bytes + word_bytes * length r.capability)

@@ -7,8 +7,7 @@ use lib.ListN.{length}
 use Rattle.rules.specs.Words.{Bytes}
 use Rattle.rules.specs.Table.{Store, bytes}
 use Rattle.rules.specs.Answers.{Refusal, code_number, Answer, Result, refuse, answer, change, Check, ◌⇒◌, judge, Outcome, outcome}
-use Rattle.rules.specs.Source.{refused_reply, reply_of}
-use Rattle.rules.specs.declared.Reply.{Reply}
+use Rattle.rules.specs.Source.{refused_reply, reply_of, Reply}
 use Rattle.results.specs.Results.{Gives}
 
 -- two replies and two tables that both keep one promise are equal
@@ -17,18 +16,17 @@ gives_one g h = (g.reply ∙ sym h.reply, g.table ∙ sym h.table)
 
 -- what a call came to
 module _ (t : Bytes) where
-  pub refusal : {r : Reply} (c : Refusal) → r ≡ refused_reply (code_number c) → Gives (outcome t (refuse c)) r t
+  pub refusal : (c : Refusal) → Gives (outcome t (refuse c)) (refused_reply (code_number c)) t
   unfolding outcome reply_of
-  refusal c e = record { reply = e; table = refl }
+  refusal c = record { reply = refl; table = refl }
 
-  pub answers : {r : Reply} (a : Answer) → r ≡ reply_of a → Gives (outcome t (answer a)) r t
+  pub answers : (a : Answer) → Gives (outcome t (answer a)) (reply_of a) t
   unfolding outcome
-  answers a e = record { reply = e; table = refl }
+  answers a = record { reply = refl; table = refl }
 
-  pub changes : {r : Reply} {t' : Bytes} (a : Answer) (s : Store) → r ≡ reply_of a → t' ≡ bytes (length t) s
-      → Gives (outcome t (change a s)) r t'
+  pub changes : {t' : Bytes} (a : Answer) (s : Store) → t' ≡ bytes (length t) s → Gives (outcome t (change a s)) (reply_of a) t'
   unfolding outcome
-  changes a s e q = record { reply = e; table = q }
+  changes a s q = record { reply = refl; table = q }
 
 -- the first check of a row
 module _ {b : Bool} where

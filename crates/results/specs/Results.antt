@@ -5,8 +5,7 @@ use Rattle.rules.specs.Table.{store}
 use Rattle.rules.specs.Sound.{sound_table}
 use Rattle.rules.specs.Messages.{key_too_long}
 use Rattle.rules.specs.Answers.{Outcome}
-use Rattle.rules.specs.Source.{reply_of}
-use Rattle.rules.specs.declared.Reply.{Reply}
+use Rattle.rules.specs.Source.{reply_of, Reply}
 
 -- a sound table with `used` occupied records
 pub record SoundWith (t : Bytes) (used : ℕ) : Type 0 where

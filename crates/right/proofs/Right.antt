@@ -1,12 +1,7 @@
 -- The bytes of a number, and bytes behind as many zeros as a word has before them, stand for the number and for the bytes' own.
-use Prim.Native.Nat.{ℕ, zero, suc, ◌+◌, ◌^◌, ◌-◌, ◌≤◌, ◌<◌}
-use native.Mathlib.Omega.{arith}
-use native.Mathlib.Nat.{lt_of_lt_of_le}
-use mathlib.Core.Path.{◌≡◌, refl, ap, ◌∙◌}
-use mathlib.Core.List.{[], ◌∷◌, append-nil}
-use lib.Dec.{lit≤}
-use lib.ListN.{length, take, replicate, length-append, length-replicate}
-use lib.Seq.{drop-drop}
+use Rattle.std.proofs.Common.{ℕ, zero, suc, ◌+◌, ◌^◌, ◌-◌, ◌≤◌, ◌<◌, arith, lt_of_lt_of_le, refl, ap, ◌∙◌, append-nil, lit≤}
+use Rattle.std.proofs.Common.{length-append, drop-drop, ◌≡◌, [], ◌∷◌, length, take, replicate}
+use lib.ListN.{length-replicate}
 use borrow.Rule.Slice.PartMut.{put_mid, post_of}
 use Rattle.rules.specs.Words.{Bytes, num_after, num, bytes_of, word}
 use Rattle.laws.proofs.Words.{length-word, num-word}

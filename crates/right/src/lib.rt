@@ -20,6 +20,6 @@ pub fn right_word(bytes: &[u8]) -> [u8; rules::WORD_BYTES]
 {
     let mut word = [0u8; rules::WORD_BYTES];
     let at = rules::WORD_BYTES - bytes.len();
-    moves::copy(&mut word[at..rules::WORD_BYTES], bytes);
+    word[at..].copy_from_slice(bytes);
     word
 }

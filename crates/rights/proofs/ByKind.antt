@@ -79,13 +79,13 @@ prefix-fits t {first = first} w r =
     omega (arith, leb-true (prefix (num first ∷ [])) greatest_prefix low)
 
 -- a type with no prefix, and one with a prefix in its first word
-pub no-prefix : (k : Kind) {n : ℕ} → number k ≡ n → 5 < n → (c : Capability) → true ≡ prefix_in_range k c
+pub no-prefix : (k : Kind) {n : ℕ} → number k ≡ n → n ≢ 3 → n ≢ 4 → n ≢ 5 → (c : Capability) → true ≡ prefix_in_range k c
 unfolding number prefix_up_to
-no-prefix call p h c = absurd (omega arith)
-no-prefix register p h c = absurd (omega arith)
-no-prefix delete p h c = absurd (omega arith)
-no-prefix set_entry p h c = refl
-no-prefix write p h c = refl
+no-prefix call p a b d c = absurd (a (sym p))
+no-prefix register p a b d c = absurd (b (sym p))
+no-prefix delete p a b d c = absurd (d (sym p))
+no-prefix set_entry p a b d c = refl
+no-prefix write p a b d c = refl
 
 pub first-prefix : {bs first : Bytes} {n : ℕ} → n ≤ 5 → WordPart bs 0 first → {r : Bool} → r ≡ leb (prefix (num first ∷ [])) greatest_prefix
     → (k : Kind) → number k ≡ n → r ≡ prefix_in_range k (capability_in k bs)

@@ -1,12 +1,6 @@
 -- The four ways of `put`: what it makes of the store, and how many records that are.
-use Prim.Native.Nat.{ℕ, suc, ◌+◌, ◌-◌}
-use native.Mathlib.Omega.{arith}
-use mathlib.Core.Path.{◌≡◌, ap, ◌∙◌}
-use mathlib.Core.List.{◌∷◌, ◌++◌}
-use mathlib.Core.Bool.{true, false}
-use lib.Dec.{eqb}
-use lib.ListN.{length, take, drop, length-append, length-take, length-drop, take-append-drop}
-use borrow.Author.Tests.{eqb-true, eqb-false}
+use Rattle.std.proofs.Common.{ℕ, suc, ◌+◌, ◌-◌, arith, ◌≡◌, ap, ◌∙◌, ◌∷◌, ◌++◌, true, false, eqb, length, take, drop, length-append, length-take, length-drop, take-append-drop, eqb-true}
+use borrow.Author.Tests.{eqb-false}
 use Rattle.rules.specs.Table.{Store, ◌holds◌, put, record_before}
 use Rattle.laws.proofs.Stores.{record_before-present}
 use Rattle.finding.proofs.Places.{Present, Absent}

@@ -4,8 +4,6 @@ ghost use Rattle.std.specs.Prelude.{◌≡◌, true, length};
 ghost use Rattle.rules.specs.Words.{word_bytes, num};
 ghost use Rattle.rules.specs.Table.{put, store, record_form};
 
-use records::Place;
-
 // How many records are occupied once a key is set to a value.
 pub fn needed(t: &[u8], used: usize, key: &[u8], value: &[u8]) -> usize
     requires t_value { record_form t.now ≡ true }
@@ -14,8 +12,9 @@ pub fn needed(t: &[u8], used: usize, key: &[u8], value: &[u8]) -> usize
     ensures { result ≡ length (put (store t.now) (num key.now) (num value.now)) }
 {
     let removes = words::is_zero(value);
-    match records::find(t, used, key) {
-        Place::Has(_) => if removes { used - 1 } else { used },
-        Place::Gap(_) => if removes { used } else { used + 1 },
+    match (records::find(t, used, key), removes) {
+        (Ok(_), true) => used - 1,
+        (Err(_), false) => used + 1,
+        _ => used,
     }
 }

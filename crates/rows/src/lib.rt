@@ -12,11 +12,7 @@ fn is_count(key: &[u8]) -> bool
     requires { length key.now ≡ word_bytes }
     ensures { result ≡ eqb (num key.now % 256 ^ 2) 0 }
 {
-    if keys::end_second(key) == 0 {
-        keys::end_third(key) == 0
-    } else {
-        false
-    }
+    keys::end_second(key) == 0 && keys::end_third(key) == 0
 }
 
 // Whether a record is a word of one of the `count` capabilities of the type before it.
@@ -34,11 +30,7 @@ fn word_row(kind: rules::Kind, before: u8, count: usize, key: &[u8], value: &[u8
     if count < i as usize {
         return false;
     }
-    if (keys::end_third(key) as usize) < kind.words() {
-        rights::prefix_in_range(kind, value)
-    } else {
-        false
-    }
+    (keys::end_third(key) as usize) < kind.words() && rights::prefix_in_range(kind, value)
 }
 
 // Whether a record of a type is one that a procedure may have behind a record of the type `before`, of which `count` are counted.
@@ -59,11 +51,7 @@ pub fn later_row(before: u8, count: usize, key: &[u8], value: &[u8]) -> bool
     ensures { result ≡ later_row before count (num key.now holds num value.now) }
 {
     let kind = rules::Kind(keys::end_first(key));
-    if kind.known() {
-        kind_row(kind, before, count, key, value)
-    } else {
-        false
-    }
+    kind.known() && kind_row(kind, before, count, key, value)
 }
 
 // How many capabilities are counted behind a record with the value `stored`, where `count` were before it.

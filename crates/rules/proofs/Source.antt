@@ -16,10 +16,9 @@ use Rattle.rules.specs.Words.{Bytes, num, num_after}
 use Rattle.rules.specs.Capabilities.{Kind, call, register, delete, set_entry, write, kinds, number, kind_among, kind_of, word_count, greatest_words}
 use Rattle.rules.specs.Messages.{payload_at, open_ended, data_of, payload_of}
 use Rattle.rules.specs.Answers.{Refusal, ed, ef, e0, ea, aa, eb, e6, e4, x33, e9, e5, x77, e1, e2, e3, x6633, e8, e7, refusals, code_number, code_bytes, Answer, refused, done, called, registered, looked, fields}
-use Rattle.rules.specs.Source.{refusal_among, is_type, words_of, open_ended_of, HasWords, refused_reply, reply_of, OwnPayload, fields_with, fields_of}
-use Rattle.rules.specs.declared.Answer.{Answer as Case}
-use Rattle.rules.specs.declared.Answer.TheVariants.{Refused, Done, Called, Registered, Looked}
-use Rattle.rules.specs.declared.Reply.{Reply}
+use Rattle.rules.specs.Source.{refusal_among, is_type, words_of, open_ended_of, HasWords, Reply, refused_reply, reply_of, OwnPayload, fields_of}
+use Rattle.std.specs.Prelude.{Ok, Err}
+use Rattle.rules.specs.declared.Success.TheVariants.{Done, Called, Registered, Looked}
 
 -- the values of a function at 0 to n - 1
 abbrev pub values : {A : Type 0} → (ℕ → A) → ℕ → List A
@@ -116,7 +115,7 @@ payload-from m = drop-drop payload_at 1 m
 
 -- a reply has the fields of the answer that it stands for
 pub reply-fields : (m : Bytes) (a : Answer) → OwnPayload m a → fields_of (reply_of a) m ≡ fields a
-unfolding fields_of fields_with reply_of refused_reply fields
+unfolding fields_of reply_of fields
 reply-fields m (refused c) h = refl
 reply-fields m done h = refl
 reply-fields m (called a p) h = rw h
@@ -149,21 +148,14 @@ code-bytes-back c = go (ltb c 256) refl
 pub code-bytes-apart : (c c' : ℕ) → code_bytes c ≡ code_bytes c' → c ≡ c'
 code-bytes-apart c c' e = sym (code-bytes-back c) ∙ ap num e ∙ code-bytes-back c'
 
-refused-only : (case : Case) (address value m : Bytes) (c : ℕ) → fields_with case address value m ≡ fields_of (refused_reply c) m
-    → record { answer = case; address = address; value = value } ≡ refused_reply c
-unfolding fields_of fields_with refused_reply
-refused-only (Refused k) a v m c e =
-    let same : k.0 ≡ c = code-bytes-apart k.0 c (ap (λ f. f.code) e) in
-    λ i. record { answer = Refused (record { 0 = same i }); address = (e i).address; value = (e i).value }
-refused-only Done a v m c e = absurd (omega (arith, ap (λ f. f.flag) e))
-refused-only Called a v m c e = absurd (omega (arith, ap (λ f. f.flag) e))
-refused-only (Registered n) a v m c e = absurd (omega (arith, ap (λ f. f.flag) e))
-refused-only Looked a v m c e = absurd (omega (arith, ap (λ f. f.flag) e))
-
 -- a reply with the fields of a refusal is that refusal
 pub refusal-apart : (r : Reply) (m : Bytes) (c : ℕ) → fields_of r m ≡ fields_of (refused_reply c) m → r ≡ refused_reply c
 unfolding fields_of
-refusal-apart r m c e = refused-only r.answer r.address r.value m c e
+refusal-apart (Err k) m c e = ap (λ n. Err (record { 0 = n })) (code-bytes-apart k.0 c (ap (λ f. f.code) e))
+refusal-apart (Ok Done) m c e = absurd (omega (arith, ap (λ f. f.flag) e))
+refusal-apart (Ok (Called a)) m c e = absurd (omega (arith, ap (λ f. f.flag) e))
+refusal-apart (Ok (Registered n)) m c e = absurd (omega (arith, ap (λ f. f.flag) e))
+refusal-apart (Ok (Looked v)) m c e = absurd (omega (arith, ap (λ f. f.flag) e))
 
 -- a code is found by its number
 pub refusal-back : (c : Refusal) → refusal_among refusals (code_number c) ≡ c

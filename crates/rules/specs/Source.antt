@@ -1,6 +1,6 @@
 -- The source's types in the rules' terms: what the rules say of a type's number, the reply that stands for an answer, and what
 -- each case of a reply means in document 01. Last, the numbers that the source names.
-use Rattle.std.specs.Prelude.{ℕ, ◌≤◌, ◌≡◌, List, [], ◌∷◌, map, Bool, true, false, eqb}
+use Rattle.std.specs.Prelude.{ℕ, ◌≤◌, ◌≡◌, List, [], ◌∷◌, map, Bool, true, false, eqb, Result, Ok, Err}
 use Rattle.std.proofs.Math.Option.{none, some}
 use Rattle.rules.specs.Words.{key_bytes, address_bytes, word_bytes, Bytes, bytes_of}
 use Rattle.rules.specs.Table.{record_size, greatest_table}
@@ -11,9 +11,9 @@ use Rattle.rules.specs.Messages.{greatest_message, data_of, payload_at, series_a
 use Rattle.rules.specs.Validation.{greatest_code}
 use Rattle.rules.specs.Answers.{Refusal, ed, refusals, code_number, code_bytes, Answer, refused, done, called, registered, looked, Fields, no_address, no_value}
 use Rattle.rules.specs.Calls.{greatest_list}
-use Rattle.rules.specs.declared.Answer.{Answer as Case}
-use Rattle.rules.specs.declared.Answer.TheVariants.{Refused, Done, Called, Registered, Looked}
-use Rattle.rules.specs.declared.Reply.{Reply}
+use Rattle.rules.specs.declared.Refusal.{Refusal as Code}
+use Rattle.rules.specs.declared.Success.{Success}
+use Rattle.rules.specs.declared.Success.TheVariants.{Done, Called, Registered, Looked}
 use Rattle.rules.specs.declared.Numbers.{Numbers}
 
 -- whether a number is a type; then what the rules say of the kind that it names, false or 0 if it names none
@@ -38,16 +38,20 @@ pub record HasWords (n r : ℕ) : Type 0 where
   pub count : r ≡ words_of n
   pub bounded : r ≤ greatest_words
 
--- the reply that stands for an answer: "Result fields that an answer does not name are zero or empty."
-unfoldable pub refused_reply : (code : ℕ) → Reply
-refused_reply code = record { answer = Refused (record { 0 = code }); address = no_address; value = no_value }
+-- what a call answers in the source: a success, or a refusal by its code
+abbrev pub Reply : Type 0
+Reply = Result Success Code
+
+-- the reply that stands for an answer
+abbrev pub refused_reply : (code : ℕ) → Reply
+refused_reply code = Err (record { 0 = code })
 
 unfoldable pub reply_of : Answer → Reply
 reply_of (refused c) = refused_reply (code_number c)
-reply_of done = record { answer = Done; address = no_address; value = no_value }
-reply_of (called address payload) = record { answer = Called; address = address; value = no_value }
-reply_of (registered tests) = record { answer = Registered tests; address = no_address; value = no_value }
-reply_of (looked value) = record { answer = Looked; address = no_address; value = value }
+reply_of done = Ok Done
+reply_of (called address payload) = Ok (Called address)
+reply_of (registered tests) = Ok (Registered tests)
+reply_of (looked value) = Ok (Looked value)
 
 -- the refusal that has a number as its code; no promised reply has a number that is no code
 unfoldable pub refusal_among : List Refusal → ℕ → Refusal
@@ -62,16 +66,16 @@ OwnPayload m (called address payload) = payload ≡ payload_of (data_of m)
 OwnPayload m (registered tests) = Unit {0}
 OwnPayload m (looked value) = Unit {0}
 
--- document 01's flag, code bytes and values for each case of a reply, beside the arrays and the message it answers
-unfoldable pub fields_with : Case → (address value message : Bytes) → Fields
-fields_with (Refused c) a v m = record { flag = 0; code = code_bytes c.0; tests = 0; address = a; payload = []; value = v }
-fields_with Done a v m = record { flag = 1; code = []; tests = 0; address = a; payload = []; value = v }
-fields_with Called a v m = record { flag = 1; code = []; tests = 0; address = a; payload = payload_of (data_of m); value = v }
-fields_with (Registered n) a v m = record { flag = 1; code = []; tests = n; address = a; payload = []; value = v }
-fields_with Looked a v m = record { flag = 1; code = []; tests = 0; address = a; payload = []; value = v }
-
+-- document 01's flag, code bytes and values for each case of a reply, beside the message it answers: "Result fields that an answer
+-- does not name are zero or empty."
 unfoldable pub fields_of : Reply → (message : Bytes) → Fields
-fields_of r m = fields_with r.answer r.address r.value m
+fields_of (Err c) m =
+    record { flag = 0; code = code_bytes c.0; tests = 0; address = no_address; payload = []; value = no_value }
+fields_of (Ok Done) m = record { flag = 1; code = []; tests = 0; address = no_address; payload = []; value = no_value }
+fields_of (Ok (Called a)) m =
+    record { flag = 1; code = []; tests = 0; address = a; payload = payload_of (data_of m); value = no_value }
+fields_of (Ok (Registered n)) m = record { flag = 1; code = []; tests = n; address = no_address; payload = []; value = no_value }
+fields_of (Ok (Looked v)) m = record { flag = 1; code = []; tests = 0; address = no_address; payload = []; value = v }
 
 -- the numbers that the source names too, each by the name it has in these files
 unfoldable pub rule_numbers : Numbers
@@ -93,6 +97,6 @@ rule_numbers =
           ∷ greatest_list
           ∷ [];
       mark = bytes_of 4 kernel_mark;
-      types = map number kinds;
-      codes = map code_number refusals;
+      types = map (λ kind. record { 0 = number kind }) kinds;
+      codes = map (λ refusal. record { 0 = code_number refusal }) refusals;
     }

@@ -2,9 +2,7 @@
 // The rules. Document 01, with what 02 has changed, stands as definitions in specs/. Here stand its numbers, named once, and the types that the
 // other crates share; `named_numbers` shows that the numbers here and in specs/ are the same ones.
 ghost use Rattle.std.specs.Prelude.{◌≡◌};
-ghost use Rattle.rules.specs.Words.{Bytes};
-ghost use Rattle.rules.specs.Answers.{done, called, registered, looked};
-ghost use Rattle.rules.specs.Source.{is_type, HasWords, minimum_of, open_ended_of, refused_reply, reply_of, rule_numbers};
+ghost use Rattle.rules.specs.Source.{is_type, HasWords, minimum_of, open_ended_of, rule_numbers};
 
 // The bytes of a procedure's key.
 pub const KEY_BYTES: usize = 24;
@@ -46,7 +44,7 @@ pub const GREATEST_CODE: usize = 24576;
 pub const GREATEST_LIST: usize = 16777215;
 
 // The type of a capability or a message, by its number. (The language keeps the word `type` for itself.)
-#[derive(Clone, Copy)]
+#[derive(Clone, Copy, Debug, PartialEq, Eq)]
 pub struct Kind(pub u8);
 
 // The numbers of types are below this.
@@ -72,15 +70,20 @@ impl Kind {
 
     pub const WRITE: Kind = Kind(7);
 
+    // Every type, in the order of their numbers.
+    pub const ALL: [Kind; 5] = [
+        Kind::CALL,
+        Kind::REGISTER,
+        Kind::DELETE,
+        Kind::SET_ENTRY,
+        Kind::WRITE,
+    ];
+
     // Whether the number names a type.
     pub fn known(self) -> bool
         ensures { result ≡ is_type self.0 }
     {
-        let type_number = self.0;
-        if type_number < Kind::CALL.0 {
-            return false;
-        }
-        type_number <= Kind::WRITE.0
+        Kind::CALL.0 <= self.0 && self.0 <= Kind::WRITE.0
     }
 
     // How many words a capability of the type has; 0 if the number names no type. Every record of a capability asks, so each type is
@@ -88,23 +91,14 @@ impl Kind {
     pub fn words(self) -> usize
         ensures { HasWords self.0 result }
     {
-        let type_number = self.0;
-        if type_number == Kind::CALL.0 {
-            return WORDS[Kind::CALL.0 as usize];
+        match self {
+            Kind::CALL => WORDS[Kind::CALL.0 as usize],
+            Kind::REGISTER => WORDS[Kind::REGISTER.0 as usize],
+            Kind::DELETE => WORDS[Kind::DELETE.0 as usize],
+            Kind::SET_ENTRY => WORDS[Kind::SET_ENTRY.0 as usize],
+            Kind::WRITE => WORDS[Kind::WRITE.0 as usize],
+            _ => 0,
         }
-        if type_number == Kind::REGISTER.0 {
-            return WORDS[Kind::REGISTER.0 as usize];
-        }
-        if type_number == Kind::DELETE.0 {
-            return WORDS[Kind::DELETE.0 as usize];
-        }
-        if type_number == Kind::SET_ENTRY.0 {
-            return WORDS[Kind::SET_ENTRY.0 as usize];
-        }
-        if type_number == Kind::WRITE.0 {
-            return WORDS[Kind::WRITE.0 as usize];
-        }
-        0
     }
 
     // How many bytes of data a message of the type has at least; 0 if the number names no type.
@@ -123,17 +117,13 @@ impl Kind {
     pub fn open_ended(self) -> bool
         ensures { result ≡ open_ended_of self.0 }
     {
-        let type_number = self.0;
-        if type_number == Kind::CALL.0 {
-            return true;
-        }
-        type_number == Kind::REGISTER.0
+        self == Kind::CALL || self == Kind::REGISTER
     }
 }
 
 // A refusal's code: its one or two bytes, read as one number. The comments are the rows of document 01's table of codes;
 // that of 66 eb is of document 02.
-#[derive(Clone, Copy)]
+#[derive(Clone, Copy, Debug, PartialEq, Eq)]
 pub struct Refusal(pub u16);
 
 impl Refusal {
@@ -175,89 +165,29 @@ impl Refusal {
     pub const NO_ROOM: Refusal = Refusal(0x66e7);
 }
 
-// What a call answers.
-#[derive(Clone, Copy)]
-pub enum Answer {
-    // a refusal with its code
-    Refused(Refusal),
-    // a success that reports nothing else
+// What a call that succeeds reports.
+#[derive(Clone, Copy, Debug, PartialEq, Eq)]
+pub enum Success {
+    // nothing else
     Done,
-    // a Call that is permitted: the callee's address is beside it, the payload is in the caller's own message
-    Called,
-    // a Register that is done, with its tests
+    // a Call that is permitted: the callee's address; the payload is in the caller's own message
+    Called([u8; ADDRESS_BYTES]),
+    // a Register that is done: its tests
     Registered(u64),
-    // Look's answer: the slot's value is beside it
-    Looked,
+    // Look: the slot's value
+    Looked([u8; WORD_BYTES]),
 }
 
-// An answer and the arrays beside it; one that the answer does not name is zero.
-#[derive(Drop)]
-pub struct Reply {
-    pub answer: Answer,
-    pub address: [u8; ADDRESS_BYTES],
-    pub value: [u8; WORD_BYTES],
-}
-
-impl Reply {
-    pub fn refused(code: Refusal) -> Reply
-        ensures { result ≡ refused_reply code.0 }
-    {
-        Reply {
-            answer: Answer::Refused(code),
-            address: [0; ADDRESS_BYTES],
-            value: [0; WORD_BYTES],
-        }
-    }
-
-    pub fn done() -> Reply
-        ensures { result ≡ reply_of done }
-    {
-        Reply {
-            answer: Answer::Done,
-            address: [0; ADDRESS_BYTES],
-            value: [0; WORD_BYTES],
-        }
-    }
-
-    // The payload is in the caller's own message, so the reply is the same for every payload.
-    pub fn called(address: [u8; ADDRESS_BYTES]) -> Reply
-        ensures { (payload : Bytes) → result ≡ reply_of (called address payload) }
-    {
-        Reply {
-            answer: Answer::Called,
-            address,
-            value: [0; WORD_BYTES],
-        }
-    }
-
-    pub fn registered(tests: u64) -> Reply
-        ensures { result ≡ reply_of (registered tests) }
-    {
-        Reply {
-            answer: Answer::Registered(tests),
-            address: [0; ADDRESS_BYTES],
-            value: [0; WORD_BYTES],
-        }
-    }
-
-    pub fn looked(value: [u8; WORD_BYTES]) -> Reply
-        ensures { result ≡ reply_of (looked value) }
-    {
-        Reply {
-            answer: Answer::Looked,
-            address: [0; ADDRESS_BYTES],
-            value,
-        }
-    }
-}
+// What a call answers.
+pub type Reply = Result<Success, Refusal>;
 
 // The numbers that are named here, in the order in which specs/ names them.
 #[derive(Drop)]
 pub struct Numbers {
     pub sizes: [usize; 13],
     pub mark: [u8; 4],
-    pub types: [u8; 5],
-    pub codes: [u16; 18],
+    pub types: [Kind; 5],
+    pub codes: [Refusal; 18],
 }
 
 const SIZES: [usize; 13] = [
@@ -276,33 +206,25 @@ const SIZES: [usize; 13] = [
     GREATEST_LIST,
 ];
 
-const TYPE_NUMBERS: [u8; 5] = [
-    Kind::CALL.0,
-    Kind::REGISTER.0,
-    Kind::DELETE.0,
-    Kind::SET_ENTRY.0,
-    Kind::WRITE.0,
-];
-
-const CODES: [u16; 18] = [
-    Refusal::WRONG_BYTES.0,
-    Refusal::UNSOUND.0,
-    Refusal::SHORT.0,
-    Refusal::MESSAGE_TOO_LONG.0,
-    Refusal::UNKNOWN_TYPE.0,
-    Refusal::OVERLONG.0,
-    Refusal::LEADING_BYTES.0,
-    Refusal::ZERO.0,
-    Refusal::NOT_COVERED.0,
-    Refusal::CODE_FAILS.0,
-    Refusal::MALFORMED_SERIES.0,
-    Refusal::TOO_MANY.0,
-    Refusal::ALREADY_LISTED.0,
-    Refusal::IS_ENTRY.0,
-    Refusal::IS_CURRENT.0,
-    Refusal::NOT_LISTED.0,
-    Refusal::LIST_FULL.0,
-    Refusal::NO_ROOM.0,
+const CODES: [Refusal; 18] = [
+    Refusal::WRONG_BYTES,
+    Refusal::UNSOUND,
+    Refusal::SHORT,
+    Refusal::MESSAGE_TOO_LONG,
+    Refusal::UNKNOWN_TYPE,
+    Refusal::OVERLONG,
+    Refusal::LEADING_BYTES,
+    Refusal::ZERO,
+    Refusal::NOT_COVERED,
+    Refusal::CODE_FAILS,
+    Refusal::MALFORMED_SERIES,
+    Refusal::TOO_MANY,
+    Refusal::ALREADY_LISTED,
+    Refusal::IS_ENTRY,
+    Refusal::IS_CURRENT,
+    Refusal::NOT_LISTED,
+    Refusal::LIST_FULL,
+    Refusal::NO_ROOM,
 ];
 
 // They are the numbers of specs/.
@@ -312,7 +234,7 @@ pub fn named_numbers() -> Numbers
     Numbers {
         sizes: SIZES,
         mark: KERNEL_MARK,
-        types: TYPE_NUMBERS,
+        types: Kind::ALL,
         codes: CODES,
     }
 }

@@ -2,27 +2,27 @@
 -- The test for too many then looks at each type's count.
 use Prim.Native.Nat.{ℕ, zero, suc, ◌+◌, ◌≤◌, ◌<◌}
 use native.Mathlib.Omega.{arith}
-use native.Mathlib.Numerals.{add-one}
 use mathlib.Core.Path.{◌≡◌, refl, sym, ap, ◌∙◌}
 use mathlib.Core.Logic.{◌⊎◌, inl, inr}
-use mathlib.Core.List.{List, ◌∷◌}
+use mathlib.Core.List.{List, [], ◌∷◌}
 use mathlib.Core.Bool.{Bool, true, false}
 use lib.Dec.{eqb, ltb}
-use lib.ListN.{length, drop, get_or, set, replicate, length-set, drop_of_length-le}
-use lib.Seq.{drop-cons, get_or-set_same, get_or-set_other, ext_get_or}
+use lib.ListN.{length, get_or, set, replicate, length-set}
+use lib.Seq.{get_or-set_same, get_or-set_other, ext_get_or}
 use borrow.Author.Tests.{ltb-true, ltb-false, eq-eqb, ne_eqb, lt-ltb, le-ltb}
+use Rattle.std.specs.Prelude.{MatchBool}
+use Rattle.std.specs.List.{AllWithin, HoldsAt}
 use Rattle.rules.specs.Words.{Bytes}
 use Rattle.rules.specs.Capabilities.{Kind, call, register, delete, set_entry, write, number}
 use Rattle.rules.specs.Sound.{greatest_count, any_of}
-use Rattle.rules.specs.Messages.{Request, series_at, requests, same_kind, requested_of}
+use Rattle.rules.specs.Messages.{Request, requests, same_kind, requested_of}
 use Rattle.rules.specs.Calls.{too_many}
 use Rattle.rules.proofs.Source.{names-none}
 use Rattle.laws.proofs.KindFacts.{number-least, kind_of-number}
 use Rattle.laws.proofs.Numbers.{same_or_not}
-use Rattle.requests.specs.Requests.{WellFormedFrom, requests_from, capability_at}
-use Rattle.series.specs.Series.{RequestAt, requested_counts}
+use Rattle.series.specs.Series.{left, bytes_left, AllLeft, FirstLeft, requested_counts}
+use Rattle.series.specs.declared.Series.{Series}
 use Rattle.series.specs.declared.Request.{Request as Found}
-use Rattle.requests.proofs.Steps.{requests-start, requests-end}
 
 -- a type's number is below the length of the counts, since no number from there on names a type
 pub number-below : (kind : Kind) → number kind < 8
@@ -40,30 +40,28 @@ number-below kind = go (ltb (number kind) 8) refl
 abbrev count : Kind → List Request → ℕ
 count kind rs = length (requested_of kind rs)
 
-pub record Counted (d : Bytes) (at : ℕ) (counts : List ℕ) : Type 0 where
+pub record Counted (d : Bytes) (it : Series) (counts : List ℕ) : Type 0 where
   pub size : length counts ≡ 8
   -- a request has at least 64 bytes, so a count does not wrap
-  pub few : (i : ℕ) → get_or counts i 0 ≤ at
+  pub few : (i : ℕ) → get_or counts i 0 + bytes_left it ≤ length d
   pub no_type : (i : ℕ) → i < 3 → get_or counts i 0 ≡ 0
-  pub left : (kind : Kind) → count kind (requests d) ≡ get_or counts (number kind) 0 + count kind (requests_from d at)
-  pub rest : WellFormedFrom d at
+  pub kinds : (kind : Kind) → count kind (requests d) ≡ get_or counts (number kind) 0 + count kind (left it)
 
 zeros-at : (n i : ℕ) → ◌≡◌ {A = ℕ} (get_or (replicate n 0) i 0) 0
 zeros-at zero i = refl
 zeros-at (suc n) zero = refl
 zeros-at (suc n) (suc i) = zeros-at n i
 
-pub counted_none : (d : Bytes) → WellFormedFrom d series_at → Counted d series_at (replicate 8 0)
-counted_none d w =
+pub counted_none : {d : Bytes} {it : Series} → AllLeft d it → Counted d it (replicate 8 0)
+counted_none {d} a =
     record {
       size = refl;
-      few = λ i. omega (arith, zeros-at 8 i);
+      few = λ i. omega (arith, zeros-at 8 i, a.bytes);
       no_type = λ i h. zeros-at 8 i;
-      left = λ kind.
+      kinds = λ kind.
           let none = zeros-at 8 (number kind) in
-          let all : count kind (requests d) ≡ count kind (requests_from d series_at) = ap (count kind) (requests-start d) in
+          let all = ap (count kind) a.all in
           omega (arith, none, all);
-      rest = w;
     }
 
 -- one more request
@@ -82,56 +80,51 @@ module _ (kind : Kind) (r : Request) (rs : List Request) where
   no_more : (number kind ≡ number r.kind → ⊥) → count kind (r ∷ rs) ≡ count kind rs
   no_more n = ap length (requested-other n)
 
-pub counted-more : {d : Bytes} {at : ℕ} {counts : List ℕ} {r : Found} → Counted d at counts → RequestAt d at r
-    → Counted d r.next (set counts r.kind.0 (get_or counts r.kind.0 0 + 1))
-counted-more {d} {at} {counts} {r} c q =
+pub counted-more : {d : Bytes} {it more : Series} {counts : List ℕ} {r : Found} → Counted d it counts → FirstLeft it r more
+    → Counted d more (set counts r.kind.0 (get_or counts r.kind.0 0 + 1))
+counted-more {d} {it} {more} {counts} {r} c q =
     record {
       size = length-set counts n (get_or counts n 0 + 1) ∙ c.size;
       few = λ i. few i (same_or_not i n);
       no_type = λ i h.
-          get_or-set_other counts n i (get_or counts n 0 + 1) 0 (λ e. omega (arith, number-least q.kind, q.type)) ∙ c.no_type i h;
-      left = λ kind. left kind (same_or_not (number kind) (number q.kind));
-      rest = q.rest;
+          get_or-set_other counts n i (get_or counts n 0 + 1) 0 (λ e. omega (arith, number-least q.request.kind, q.type)) ∙ c.no_type i h;
+      kinds = λ kind. kinds kind (same_or_not (number kind) (number q.request.kind));
     }
   where
     n : ℕ
     n = r.kind.0
 
     raised : get_or (set counts n (get_or counts n 0 + 1)) n 0 ≡ get_or counts n 0 + 1
-    raised = get_or-set_same counts n (get_or counts n 0 + 1) 0 (omega (arith, number-below q.kind, q.type, c.size))
+    raised = get_or-set_same counts n (get_or counts n 0 + 1) 0 (omega (arith, number-below q.request.kind, q.type, c.size))
 
-    few : (i : ℕ) → (i ≡ n) ⊎ (i ≡ n → ⊥) → get_or (set counts n (get_or counts n 0 + 1)) i 0 ≤ r.next
-    few i (inl e) = rw (e, raised) (omega (arith, c.few n, q.words_at, q.next_at))
-    few i (inr o) = rw (get_or-set_other counts n i (get_or counts n 0 + 1) 0 o) (omega (arith, c.few i, q.words_at, q.next_at))
+    few : (i : ℕ) → (i ≡ n) ⊎ (i ≡ n → ⊥) → get_or (set counts n (get_or counts n 0 + 1)) i 0 + bytes_left more ≤ length d
+    few i (inl e) = rw (e, raised) (omega (arith, c.few n, q.bytes))
+    few i (inr o) = rw (get_or-set_other counts n i (get_or counts n 0 + 1) 0 o) (omega (arith, c.few i, q.bytes))
 
-    found : Request
-    found = record { kind = q.kind; capability = capability_at d q.kind r.words_at }
-
-    first : (kind : Kind) → count kind (requests_from d at) ≡ count kind (found ∷ requests_from d r.next)
+    first : (kind : Kind) → count kind (left it) ≡ count kind (q.request ∷ left more)
     first kind = ap (count kind) q.first
 
-    left : (kind : Kind) → (number kind ≡ number q.kind) ⊎ (number kind ≡ number q.kind → ⊥)
-        → count kind (requests d) ≡ get_or (set counts n (get_or counts n 0 + 1)) (number kind) 0 + count kind (requests_from d r.next)
-    left kind (inl e) =
+    kinds : (kind : Kind) → (number kind ≡ number q.request.kind) ⊎ (number kind ≡ number q.request.kind → ⊥)
+        → count kind (requests d) ≡ get_or (set counts n (get_or counts n 0 + 1)) (number kind) 0 + count kind (left more)
+    kinds kind (inl e) =
         let at_n : number kind ≡ n = e ∙ sym q.type in
-        let here = c.left kind in
-        let more = first kind ∙ one_more kind found (requests_from d r.next) e in
-        rw (at_n, raised) (omega (arith, rw at_n at here, more))
-    left kind (inr o) =
+        let here = c.kinds kind in
+        let more_of = first kind ∙ one_more kind q.request (left more) e in
+        rw (at_n, raised) (omega (arith, rw at_n at here, more_of))
+    kinds kind (inr o) =
         let off_n : number kind ≡ n → ⊥ = λ e. o (e ∙ q.type) in
-        let here = c.left kind in
-        let more = first kind ∙ no_more kind found (requests_from d r.next) o in
-        rw (get_or-set_other counts n (number kind) (get_or counts n 0 + 1) 0 off_n) (omega (arith, here, more))
+        let here = c.kinds kind in
+        let more_of = first kind ∙ no_more kind q.request (left more) o in
+        rw (get_or-set_other counts n (number kind) (get_or counts n 0 + 1) 0 off_n) (omega (arith, here, more_of))
 
-pub counted-all : {d : Bytes} {at : ℕ} {counts : List ℕ} → Counted d at counts → length d ≤ at
-    → counts ≡ requested_counts (requests d)
+pub counted-all : {d : Bytes} {it : Series} {counts : List ℕ} → Counted d it counts → left it ≡ [] → counts ≡ requested_counts (requests d)
 unfolding requested_counts number requested_of
-counted-all {d} {at} {counts} c l = ext_get_or 0 counts (requested_counts (requests d)) c.size same
+counted-all {d} {it} {counts} c l = ext_get_or 0 counts (requested_counts (requests d)) c.size same
   where
     each : (kind : Kind) → get_or counts (number kind) 0 ≡ count kind (requests d)
     each kind =
-        let none : count kind (requests_from d at) ≡ 0 = ap (count kind) (requests-end d at l) in
-        omega (arith, c.left kind, none)
+        let none : count kind (left it) ≡ 0 = ap (count kind) l in
+        omega (arith, c.kinds kind, none)
 
     same : (i : ℕ) → i < length counts → get_or counts i 0 ≡ get_or (requested_counts (requests d)) i 0
     same zero h = c.no_type 0 (omega arith)
@@ -153,38 +146,35 @@ requested-at rs delete = refl
 requested-at rs set_entry = refl
 requested-at rs write = refl
 
--- the counts before a number are not too many, so those from it on decide
-pub record Searched (rs : List Request) (n : ℕ) : Type 0 where
-  pub left : too_many rs ≡ any_of (ltb greatest_count) (drop n (requested_counts rs))
+-- whether one of the counts is too large
+found : (xs : List ℕ) (k : ℕ) → k < length xs → greatest_count < get_or xs k 0 → any_of (ltb greatest_count) xs ≡ true
+unfolding any_of
+found [] k h l = absurd (omega arith)
+found (x ∷ xs) zero h l = let many = lt-ltb greatest_count x l in rw (many, any_of)
+found (x ∷ xs) (suc k) h l = go (found xs k (omega arith) l) (ltb greatest_count x) refl
+  where
+    go : any_of (ltb greatest_count) xs ≡ true → (b : Bool) → ltb greatest_count x ≡ b → any_of (ltb greatest_count) (x ∷ xs) ≡ true
+    go e true q = rw (q, any_of)
+    go e false q = rw (q, any_of) e
 
-pub searched-none : (rs : List Request) → Searched rs 3
+not-found : (xs : List ℕ) → AllWithin (λ x. x ≤ greatest_count) xs 0 (length xs) → any_of (ltb greatest_count) xs ≡ false
+unfolding any_of
+not-found [] h = refl
+not-found (x ∷ xs) h =
+    let few = le-ltb greatest_count x (h 0 0 (omega arith) (omega arith)) in
+    rw (few, any_of) (not-found xs (λ k d l m. h (suc k) d (omega arith) (omega arith)))
+
+-- no count stands where no type's number is, so those of the types decide
+pub counts-decide : (rs : List Request) {counts : List ℕ} → counts ≡ requested_counts rs → (r : Bool)
+    → MatchBool r ((k : ℕ) × (k < length counts) × HoldsAt (λ x. greatest_count < x) counts k) (AllWithin (λ x. x ≤ greatest_count) counts 0 (length counts))
+    → r ≡ too_many rs
 unfolding too_many any_of requested_counts
-searched-none rs = record { left = refl }
+counts-decide rs {counts} e r h = go r h ∙ ap (any_of (ltb greatest_count)) e ∙ all
+  where
+    all : any_of (ltb greatest_count) (requested_counts rs) ≡ too_many rs
+    all = refl
 
-counts-long : (rs : List Request) → length (requested_counts rs) ≡ 8
-unfolding requested_counts
-counts-long rs = refl
-
-next-count : (rs : List Request) (n : ℕ) → n < 8
-    → drop n (requested_counts rs) ≡ get_or (requested_counts rs) n 0 ∷ drop (suc n) (requested_counts rs)
-next-count rs n h = drop-cons (requested_counts rs) n 0 (rw counts-long h)
-
-pub searched-more : {rs : List Request} {n : ℕ} → Searched rs n → n < 8 → get_or (requested_counts rs) n 0 ≤ greatest_count
-    → Searched rs (n + 1)
-unfolding any_of
-searched-more {rs} {n} s h l =
-    let few = le-ltb greatest_count (get_or (requested_counts rs) n 0) l in
-    record { left = s.left ∙ ap (any_of (ltb greatest_count)) (next-count rs n h) ∙ rw (few, any_of, add-one) }
-
-pub searched-stop : {rs : List Request} {n : ℕ} → Searched rs n → n < 8 → greatest_count < get_or (requested_counts rs) n 0
-    → true ≡ too_many rs
-unfolding any_of
-searched-stop {rs} {n} s h l =
-    let many = lt-ltb greatest_count (get_or (requested_counts rs) n 0) l in
-    sym (s.left ∙ ap (any_of (ltb greatest_count)) (next-count rs n h) ∙ rw (many, any_of))
-
-pub searched-all : {rs : List Request} {n : ℕ} → Searched rs n → 8 ≤ n → false ≡ too_many rs
-unfolding any_of
-searched-all {rs} {n} s h =
-    let past : length (requested_counts rs) ≤ n = rw counts-long h in
-    sym (s.left ∙ ap (any_of (ltb greatest_count)) (drop_of_length-le (requested_counts rs) past))
+    go : (r : Bool) → MatchBool r ((k : ℕ) × (k < length counts) × HoldsAt (λ x. greatest_count < x) counts k) (AllWithin (λ x. x ≤ greatest_count) counts 0 (length counts))
+        → r ≡ any_of (ltb greatest_count) counts
+    go true q = sym (found counts q.0 q.1 (q.2 0))
+    go false q = sym (not-found counts q)

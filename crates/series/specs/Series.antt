@@ -1,21 +1,53 @@
 -- What is promised of the requests of a well-formed series.
-use Rattle.std.specs.Prelude.{ℕ, ◌+◌, ◌*◌, ◌≤◌, ◌≡◌, List, [], ◌∷◌, true, length}
-use Rattle.rules.specs.Words.{Bytes, word_bytes}
+use Rattle.std.specs.Prelude.{ℕ, ◌+◌, ◌*◌, ◌-◌, ◌≤◌, ◌≡◌, List, [], ◌∷◌, true, length, take, drop, Option, None, Some}
+use Rattle.rules.specs.Words.{Bytes, word_bytes, words}
 use Rattle.rules.specs.Capabilities.{Kind, call, register, delete, set_entry, write, number, word_count, prefix_in_range}
-use Rattle.rules.specs.Messages.{Request as Requested, requested_of}
-use Rattle.series.specs.declared.Request.{Request}
+use Rattle.rules.specs.Messages.{Request as Requested, series_at, requests, requested_of}
 use Rattle.requests.specs.Requests.{WellFormedFrom, requests_from, capability_at}
+use Rattle.series.specs.declared.Request.{Request}
+use Rattle.series.specs.declared.Series.{Series}
 
 -- r is the request that begins at an offset of a well-formed series
 pub record RequestAt (d : Bytes) (at : ℕ) (r : Request) : Type 0 where
   pub kind : Kind
   pub type : r.kind.0 ≡ number kind
-  pub words_at : r.words_at ≡ at + 2 * word_bytes
-  pub next_at : r.next ≡ r.words_at + word_bytes * word_count kind
-  pub within : r.next ≤ length d
-  pub in_range : prefix_in_range kind (capability_at d kind r.words_at) ≡ true
-  pub first : requests_from d at ≡ record { kind = kind; capability = capability_at d kind r.words_at } ∷ requests_from d r.next
-  pub rest : WellFormedFrom d r.next
+  pub words : r.words.now ≡ take (word_bytes * word_count kind) (drop (at + 2 * word_bytes) d)
+  pub size : length r.words.now ≡ word_bytes * word_count kind
+  pub within : at + (2 * word_bytes + length r.words.now) ≤ length d
+  pub in_range : prefix_in_range kind (capability_at d kind (at + 2 * word_bytes)) ≡ true
+  pub first : requests_from d at
+      ≡ record { kind = kind; capability = capability_at d kind (at + 2 * word_bytes) } ∷ requests_from d (at + (2 * word_bytes + length r.words.now))
+  pub rest : WellFormedFrom d (at + (2 * word_bytes + length r.words.now))
+
+-- of requests that are read one after the other: those that are left, and their bytes
+abbrev pub left : Series → List Requested
+left it = requests_from it.d.now it.at
+
+abbrev pub bytes_left : Series → ℕ
+bytes_left it = length it.d.now - it.at
+
+abbrev pub WellFormedLeft : Series → Type 0
+WellFormedLeft it = WellFormedFrom it.d.now it.at
+
+-- all requests of a well-formed series are left
+pub record AllLeft (d : Bytes) (it : Series) : Type 0 where
+  pub all : left it ≡ requests d
+  pub bytes : bytes_left it ≡ length d - series_at
+  pub rest : WellFormedLeft it
+
+-- r is the first of the requests that were left
+pub record FirstLeft (old : Series) (r : Request) (new : Series) : Type 0 where
+  pub request : Requested
+  pub type : r.kind.0 ≡ number request.kind
+  pub size : length r.words.now ≡ word_bytes * word_count request.kind
+  pub capability : request.capability ≡ words (word_count request.kind) r.words.now
+  pub first : left old ≡ request ∷ left new
+  pub bytes : bytes_left old ≡ 2 * word_bytes + length r.words.now + bytes_left new
+
+-- the first that was left is given; or none is left, now and later
+abbrev pub GivesRequest : Series → Option Request → Series → Type 0
+GivesRequest old None new = (left old ≡ []) × (left new ≡ [])
+GivesRequest old (Some r) new = FirstLeft old r new
 
 -- how many are requested of each type, at the type's number
 unfoldable pub requested_counts : List Requested → List ℕ

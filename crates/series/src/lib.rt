@@ -4,30 +4,69 @@ ghost use Rattle.std.specs.Prelude.{◌≡◌, ◌<◌, length};
 ghost use Rattle.rules.specs.Messages.{series_at, requests};
 ghost use Rattle.rules.specs.Calls.{too_many};
 ghost use Rattle.requests.specs.Requests.{WellFormedFrom};
-ghost use Rattle.series.specs.Series.{RequestAt, requested_counts};
+ghost use Rattle.series.specs.Series.{RequestAt, AllLeft, requested_counts};
 
 pub use requests::well_formed;
 use rules::Kind;
 
-// A request of a well-formed series: its type, and where in the data its words and the next request begin.
-#[derive(Clone, Copy)]
-pub struct Request {
+// A request of a well-formed series: its type, and its words.
+#[derive(Clone, Copy, Debug, PartialEq, Eq)]
+pub struct Request<'a> {
     pub kind: Kind,
-    pub words_at: usize,
-    pub next: usize,
+    pub words: &'a [u8],
 }
 
 // The request that begins at an offset of a well-formed series, before its end.
-pub fn request_at(d: &[u8], at: usize) -> Request
+pub fn request_at<'a>(d: &'a [u8], at: usize) -> Request<'a>
     requires { (at < length d.now) × WellFormedFrom d.now at }
     ensures { RequestAt d.now at result }
 {
     let words_at = at + requests::HEAD;
     let kind = Kind(d[words_at - 1]);
+    let end = words_at + rules::WORD_BYTES * kind.words();
     Request {
         kind,
-        words_at,
-        next: words_at + rules::WORD_BYTES * kind.words(),
+        words: &d[words_at..end],
+    }
+}
+
+// The requests of a well-formed series from an offset on, in order.
+#[derive(Drop)]
+pub struct Series<'a> {
+    d: &'a [u8],
+    at: usize,
+}
+
+impl<'a> Iterator for Series<'a> {
+    ghost use Rattle.std.specs.Iterator.{item_count};
+    ghost use Rattle.series.specs.Series.{left, WellFormedLeft, GivesRequest};
+
+    type Item = Request<'a>;
+
+    ghost can_next = { WellFormedLeft };
+
+    ghost next_gives = { GivesRequest };
+
+    ghost remaining = { item_count left };
+
+    fn next(&mut self) -> Option<Request<'a>> {
+        if self.d.len() <= self.at {
+            return None;
+        }
+        let request = request_at(self.d, self.at);
+        self.at += requests::HEAD + request.words.len();
+        Some(request)
+    }
+}
+
+// The requests of a well-formed series.
+pub fn requests<'a>(d: &'a [u8]) -> Series<'a>
+    requires { WellFormedFrom d.now series_at }
+    ensures { AllLeft d.now result }
+{
+    Series {
+        d,
+        at: rules::SERIES_AT,
     }
 }
 
@@ -37,12 +76,8 @@ pub fn requested(d: &[u8]) -> [usize; rules::TYPES]
     ensures { result ≡ requested_counts (requests d.now) }
 {
     let mut counts = [0; rules::TYPES];
-    let mut at = rules::SERIES_AT;
-    while at < d.len() {
-        let request = request_at(d, at);
-        let number = request.kind.0 as usize;
-        counts[number] += 1;
-        at = request.next;
+    for request in requests(d) {
+        counts[request.kind.0 as usize] += 1;
     }
     counts
 }
@@ -53,12 +88,5 @@ pub fn too_many(d: &[u8]) -> bool
     ensures { result ≡ too_many (requests d.now) }
 {
     let counts = requested(d);
-    let mut number = Kind::CALL.0 as usize;
-    while number < rules::TYPES {
-        if rules::GREATEST_COUNT < counts[number] {
-            return true;
-        }
-        number += 1;
-    }
-    false
+    counts.iter().any(|count| rules::GREATEST_COUNT < *count)
 }

@@ -1,9 +1,5 @@
 -- A place of the list in the middle of its key: 16 zeros, then the place's 8 bytes.
-use Prim.Native.Nat.{ℕ, ◌+◌, ◌*◌, ◌^◌, ◌<◌}
-use native.Mathlib.Omega.{arith}
-use mathlib.Core.Path.{◌≡◌, ◌∙◌}
-use mathlib.Core.List.{[], ◌++◌, append-nil}
-use lib.ListN.{length, replicate}
+use Rattle.std.proofs.Common.{ℕ, ◌+◌, ◌*◌, ◌^◌, ◌<◌, arith, ◌∙◌, append-nil, ◌≡◌, [], ◌++◌, length, replicate}
 use Rattle.rules.specs.Words.{Bytes, num_after, num, bytes_of}
 use Rattle.laws.proofs.Words.{length-bytes_before, num_after-bytes}
 

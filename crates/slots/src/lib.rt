@@ -1,4 +1,4 @@
-#![tactic(auto)]
+#![tactic(auto, unfolding(rules::specs::KernelStorage::ending, rules::specs::KernelStorage::address_slot, rules::specs::KernelStorage::index_slot, rules::specs::KernelStorage::count_slot, rules::specs::KernelStorage::word_slot, rules::specs::KernelStorage::length_slot, rules::specs::KernelStorage::kernel_address_slot, rules::specs::KernelStorage::current_slot, rules::specs::KernelStorage::entry_slot, rules::specs::Words::num, rules::specs::Words::num_after))]
 // The keys of the slots of kernel storage.
 ghost use Rattle.std.specs.Prelude.{◌≡◌, length};
 ghost use Rattle.rules.specs.Words.{key_bytes, num};
@@ -11,7 +11,7 @@ pub use layout::{slot, write_number};
 // The last 8 bytes of the middle, as long as a place of the list.
 const PLACE_AT: usize = 16;
 
-// The regions.
+// The regions, as numbers, which is how a key has them: an enum would be turned into its number at each use.
 const PROCEDURES: u8 = 0;
 
 const LIST: u8 = 1;
@@ -75,7 +75,7 @@ pub fn place_slot(n: usize) -> [u8; rules::WORD_BYTES]
     ensures { KeyOf (place_slot n) result }
 {
     let mut middle = [0u8; rules::KEY_BYTES];
-    layout::write_number(&mut middle[PLACE_AT..rules::KEY_BYTES], n);
+    layout::write_number(&mut middle[PLACE_AT..], n);
     list_slot(&middle)
 }
 

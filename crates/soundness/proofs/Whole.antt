@@ -1,15 +1,11 @@
 -- The list, the procedures and what is asked besides: together they are the walk, and the walk is the rules' test.
-use Prim.Native.Nat.{ℕ, ◌+◌, ◌-◌, ◌≤◌, ◌<◌, min}
-use native.Mathlib.Omega.{arith}
-use mathlib.Core.Path.{◌≡◌, refl, sym, ap, ◌∙◌}
-use mathlib.Core.Bool.{Bool, true, false, true≢false}
-use lib.ListN.{length}
+use Rattle.std.proofs.Common.{ℕ, ◌+◌, ◌-◌, ◌≤◌, ◌<◌, min, arith, ◌≡◌, refl, sym, ap, ◌∙◌, Bool, true, false, length, Option, None, Some, Result, Ok, Err}
 use Rattle.rules.specs.Words.{Bytes, num}
 use Rattle.rules.specs.Table.{Store, get, store, record_form}
 use Rattle.rules.specs.KernelStorage.{length_slot, kernel_address_slot, current_slot, entry_slot}
 use Rattle.rules.specs.Procedures.{list_length, kernel_address, current, entry_key, listed}
 use Rattle.rules.specs.Sound.{is_key, is_address, sound, sound_table}
-use Rattle.laws.proofs.Bools.{decide-false, and_left}
+use Rattle.laws.proofs.Bools.{and_left}
 use Rattle.laws.proofs.Procedures.{list-short}
 use Rattle.laws.proofs.TableDecides.{sound_table-good}
 use Rattle.laws.proofs.TableRecords.{formed}
@@ -21,12 +17,10 @@ use Rattle.walks.proofs.WalkDecides.{listed-key, sound-walked}
 use Rattle.lists.specs.Lists.{Laid}
 use Rattle.lists.proofs.LaidRows.{laid-room, is-laid}
 use Rattle.table.specs.Tables.{form_of}
-use Rattle.table.specs.declared.Form.{Form}
-use Rattle.table.specs.declared.Form.TheVariants.{Used, Bad}
 use Rattle.table.proofs.Forms.{used-form, used-count, bad-form}
 use Rattle.holding.specs.Holding.{WordOf}
-use Rattle.soundness.specs.declared.Soundness.{Soundness}
-use Rattle.soundness.specs.declared.Soundness.TheVariants.{Sound, Unsound}
+use Rattle.rules.specs.Answers.{ef, code_number}
+use Rattle.rules.specs.declared.Refusal.{Refusal as Code}
 use Rattle.key_words.specs.KeyWords.{KeyPart}
 use Rattle.listing.specs.Listings.{Occupied, Listing}
 use Rattle.soundness.specs.Soundness.{SoundList, rest_sound, soundness_of}
@@ -36,11 +30,6 @@ use Rattle.listing.proofs.Lookups.{at_slot, word-key, few}
 module _ {x : ℕ} {w : Bytes} (v : WordOf x w) {a : Bool} (e : a ≡ is_key (num w)) where
   pub key-listed : (s : Store) → a ≡ true → {part : Bytes} → KeyPart (num w) part → {r : Bool} → r ≡ listed s (num part) → r ≡ listed s x
   key-listed s q p d = d ∙ ap (listed s) (word-key v e q p)
-
-  pub no-key-listed : {t : Bytes} {used places : ℕ} → SoundList t used places → a ≡ false → false ≡ listed (store t) x
-  no-key-listed {t} l q =
-      let no : is_key x ≡ false = ap is_key (sym v.number) ∙ sym e ∙ q in
-      sym (decide-false (listed (store t) x) (λ yes. true≢false (sym (l.keys x yes) ∙ no)))
 
 -- what is asked besides the list
 module _ (s : Store) {of_current : Bytes} (k : KeyOf current_slot of_current) {a : Bool} (e : a ≡ listed s (get s (num of_current))) where
@@ -123,59 +112,67 @@ module _ {t : Bytes} {used list : ℕ} (o : Occupied t used) {slot : Bytes} (k :
         unfolding walked rest_sound
         rest-if z h = h ∙ sym (is-walked ∙ rw (rows, sym f ∙ z))
 
+-- the refusal of a table that is not sound
+abbrev pub refused : Result ℕ Code
+refused = Err (record { 0 = code_number ef })
+
 -- the whole
-module _ (t : Bytes) {r : Form} (e : r ≡ form_of t) where
-  pub used-occupied : {n : ℕ} → r ≡ Used n → Occupied t n
+module _ (t : Bytes) {r : Option ℕ} (e : r ≡ form_of t) where
+  pub used-occupied : {n : ℕ} → r ≡ Some n → Occupied t n
   used-occupied h = record { form = used-form t e h; count = used-count t e h }
 
   answer : {b : Bool} → record_form t ≡ true → sound (store t) ≡ b → sound_table t ≡ b
   unfolding sound_table
   answer f q = rw f q
 
-  pub form-bad : r ≡ Bad → Unsound ≡ soundness_of t
+  pub form-bad : r ≡ None → refused ≡ soundness_of t
   unfolding soundness_of
   form-bad h = sym (rw (bad h, soundness_of))
     where
-      bad : r ≡ Bad → sound_table t ≡ false
+      bad : r ≡ None → sound_table t ≡ false
       bad h = unfold sound_table in rw (bad-form t e h)
 
-  pub store-unsound : {n : ℕ} → r ≡ Used n → {b : Bool} → b ≡ sound (store t) → b ≡ false → Unsound ≡ soundness_of t
+  pub store-unsound : {n : ℕ} → r ≡ Some n → {b : Bool} → b ≡ sound (store t) → b ≡ false → refused ≡ soundness_of t
   unfolding soundness_of
   store-unsound h d q = let no : sound_table t ≡ false = answer (used-form t e h) (sym d ∙ q) in sym (rw (no, soundness_of))
 
-  pub store-sound : {n : ℕ} → r ≡ Used n → {b : Bool} → b ≡ sound (store t) → b ≡ true → Sound n ≡ soundness_of t
+  pub store-sound : {n : ℕ} → r ≡ Some n → {b : Bool} → b ≡ sound (store t) → b ≡ true → Ok n ≡ soundness_of t
   unfolding soundness_of
   store-sound h d q =
       let yes : sound_table t ≡ true = answer (used-form t e h) (sym d ∙ q) in
-      ap Sound (used-count t e h) ∙ sym (rw (yes, soundness_of))
+      ap Ok (used-count t e h) ∙ sym (rw (yes, soundness_of))
 
 -- what the answer tells a caller
-module _ (t : Bytes) {r : Soundness} (e : r ≡ soundness_of t) where
-  pub sound-table : {n : ℕ} → r ≡ Sound n → sound_table t ≡ true
+module _ (t : Bytes) {r : Result ℕ Code} (e : r ≡ soundness_of t) where
+  pub sound-table : {n : ℕ} → r ≡ Ok n → sound_table t ≡ true
   unfolding soundness_of
   sound-table {n} h = go (sound_table t) refl
     where
       go : (b : Bool) → sound_table t ≡ b → sound_table t ≡ true
       go true q = q
       go false q =
-          let no : soundness_of t ≡ Unsound = rw (q, soundness_of) in
+          let no : soundness_of t ≡ refused = rw (q, soundness_of) in
           let z : ◌≡◌ {A = ℕ} 0 1 = cc in
           absurd (omega arith)
 
-  pub sound-count : {n : ℕ} → r ≡ Sound n → n ≡ length (store t)
+  pub sound-count : {n : ℕ} → r ≡ Ok n → n ≡ length (store t)
   unfolding soundness_of
-  sound-count h = let yes : soundness_of t ≡ Sound (length (store t)) = rw (sound-table h, soundness_of) in cc
+  sound-count h = let yes : soundness_of t ≡ Ok (length (store t)) = rw (sound-table h, soundness_of) in cc
 
-  pub unsound-table : r ≡ Unsound → sound_table t ≡ false
+  pub unsound-table : {code : Code} → r ≡ Err code → sound_table t ≡ false
   unfolding soundness_of
   unsound-table h = go (sound_table t) refl
     where
       go : (b : Bool) → sound_table t ≡ b → sound_table t ≡ false
       go false q = q
       go true q =
-          let yes : soundness_of t ≡ Sound (length (store t)) = rw (q, soundness_of) in
+          let yes : soundness_of t ≡ Ok (length (store t)) = rw (q, soundness_of) in
           let z : ◌≡◌ {A = ℕ} 0 1 = cc in
           absurd (omega arith)
+
+  pub unsound-code : {code : Code} → r ≡ Err code → code ≡ record { 0 = code_number ef }
+  unfolding soundness_of
+  unsound-code h = let no : soundness_of t ≡ refused = rw (unsound-table h, soundness_of) in cc
 
 -- the list of a sound table
 module _ {t : Bytes} (s : sound_table t ≡ true) {used : ℕ} (c : used ≡ length (store t)) where

@@ -9,12 +9,7 @@ ghost use Rattle.rules.specs.Sound.{sound, sound_table};
 ghost use Rattle.listing.specs.Listings.{Occupied, Listing};
 ghost use Rattle.soundness.specs.Soundness.{SoundList, rest_sound, soundness_of};
 
-// How many records are occupied, if the table is sound.
-#[derive(Clone, Copy)]
-pub enum Soundness {
-    Sound(usize),
-    Unsound,
-}
+use rules::Refusal;
 
 // Whether a slot holds a listed key, where only a key is listed.
 fn holds_listed(t: &[u8], used: usize, places: usize, slot: &[u8]) -> bool
@@ -23,11 +18,7 @@ fn holds_listed(t: &[u8], used: usize, places: usize, slot: &[u8]) -> bool
     ensures { result ≡ listed (store t.now) (get (store t.now) (num slot.now)) }
 {
     let key = listing::value_at(t, used, slot);
-    if listing::is_key(&key) {
-        listing::listed(t, used, places, listing::key_part(&key))
-    } else {
-        false
-    }
+    listing::is_key(&key) && listing::listed(t, used, places, listing::key_part(&key))
 }
 
 // What soundness asks besides the list and the procedures.
@@ -35,16 +26,9 @@ fn rest_sound(t: &[u8], used: usize, places: usize) -> bool
     requires { SoundList t.now used places }
     ensures { result ≡ rest_sound (store t.now) }
 {
-    if holds_listed(t, used, places, &slots::current_slot()) {
-        if holds_listed(t, used, places, &slots::entry_slot()) {
-            let slot = slots::kernel_address_slot();
-            listing::is_address(&listing::value_at(t, used, &slot))
-        } else {
-            false
-        }
-    } else {
-        false
-    }
+    holds_listed(t, used, places, &slots::current_slot())
+        && holds_listed(t, used, places, &slots::entry_slot())
+        && listing::is_address(&listing::value_at(t, used, &slots::kernel_address_slot()))
 }
 
 // Whether the records of a table are sound.
@@ -53,31 +37,24 @@ fn store_sound(t: &[u8], used: usize) -> bool
     ensures { result ≡ sound (store t.now) }
 {
     let list = finding::keys_below(t, used, &slots::length_slot());
-    if lists::list_form(t, used, list) {
-        let places = used - list - lists::NO_PLACES;
-        if blocks::blocks_form(t, used, list, places) {
-            rest_sound(t, used, places)
-        } else {
-            false
-        }
-    } else {
-        false
+    if !lists::list_form(t, used, list) {
+        return false;
     }
+    let places = used - list - lists::NO_PLACES;
+    blocks::blocks_form(t, used, list, places) && rest_sound(t, used, places)
 }
 
-// Whether a table is sound, and how many records are then occupied.
-pub fn sound(t: &[u8]) -> Soundness
+// How many records of a table are occupied, or the refusal of a table that is not sound.
+pub fn sound(t: &[u8]) -> Result<usize, Refusal>
     ensures { result ≡ soundness_of t.now }
 {
-    match table::form_of(t) {
-        table::Form::Used(used) => {
-            if store_sound(t, used) {
-                Soundness::Sound(used)
-            } else {
-                Soundness::Unsound
-            }
-        }
-        table::Form::Bad => Soundness::Unsound,
+    let Some(used) = table::form_of(t) else {
+        return Err(Refusal::UNSOUND);
+    };
+    if store_sound(t, used) {
+        Ok(used)
+    } else {
+        Err(Refusal::UNSOUND)
     }
 }
 
@@ -87,6 +64,5 @@ pub fn list_length(t: &[u8], used: usize) -> usize
     requires used_value { used ≡ length (store t.now) }
     ensures { Listing t.now used result }
 {
-    let length_slot = slots::length_slot();
-    words::small(&listing::value_at(t, used, &length_slot))
+    words::small(&listing::value_at(t, used, &slots::length_slot()))
 }

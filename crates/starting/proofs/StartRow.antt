@@ -1,5 +1,6 @@
 -- Set-up's row where the sizes are right: each return of the code is a place in it. The 13 records that it needs are counted in the
 -- laws.
+use Rattle.std.proofs.Common.{Ok}
 use Prim.Native.Nat.{◌≤◌, ◌<◌}
 use mathlib.Core.Path.{◌≡◌, sym, ◌∙◌}
 use mathlib.Core.Bool.{Bool, true, false}
@@ -11,8 +12,8 @@ use Rattle.rules.specs.Table.{bytes}
 use Rattle.rules.specs.Sound.{IsKey, IsAddress}
 use Rattle.rules.specs.Answers.{e4, e7, code_number, done, outcome}
 use Rattle.rules.specs.Calls.{is_zero, fresh, set_up_row}
-use Rattle.rules.specs.Source.{refused_reply, reply_of}
-use Rattle.rules.specs.declared.Reply.{Reply}
+use Rattle.rules.specs.Source.{refused_reply, reply_of, Reply}
+use Rattle.rules.specs.declared.Success.TheVariants.{Done}
 use Rattle.laws.proofs.Fresh.{set-up-bytes}
 use Rattle.laws.proofs.Numbers.{non_zero}
 use Rattle.laws.proofs.Words.{num-fits}
@@ -26,27 +27,27 @@ module _ {t k a ka : Bytes} (z : RightSizes t k a ka) (kb : AllBytes k) (ab : Al
   unfolding is_zero
   zero-key q = sym e ∙ q
 
-  pub key-zero : p ≡ true → {r : Reply} → r ≡ refused_reply (code_number e4) → Gives (outcome t (set_up_on_sizes t k a ka)) r t
+  pub key-zero : p ≡ true → Gives (outcome t (set_up_on_sizes t k a ka)) (refused_reply (code_number e4)) t
   unfolding set_up_row
-  key-zero q f = rw (refuses (zero-key q)) (refusal t e4 f)
+  key-zero q = rw (refuses (zero-key q)) (refusal t e4)
 
   module _ (key : p ≡ false) {i : Bool} (g : i ≡ eqb (num a) 0) where
     zero-address : {b : Bool} → i ≡ b → is_zero (num a) ≡ b
     unfolding is_zero
     zero-address q = sym g ∙ q
 
-    pub address-zero : i ≡ true → {r : Reply} → r ≡ refused_reply (code_number e4) → Gives (outcome t (set_up_on_sizes t k a ka)) r t
+    pub address-zero : i ≡ true → Gives (outcome t (set_up_on_sizes t k a ka)) (refused_reply (code_number e4)) t
     unfolding set_up_row
-    address-zero q f = rw (passes (zero-key key), refuses (zero-address q)) (refusal t e4 f)
+    address-zero q = rw (passes (zero-key key), refuses (zero-address q)) (refusal t e4)
 
     module _ (address : i ≡ false) {j : Bool} (h : j ≡ eqb (num ka) 0) where
       zero-kernel : {b : Bool} → j ≡ b → is_zero (num ka) ≡ b
       unfolding is_zero
       zero-kernel q = sym h ∙ q
 
-      pub kernel-zero : j ≡ true → {r : Reply} → r ≡ refused_reply (code_number e4) → Gives (outcome t (set_up_on_sizes t k a ka)) r t
+      pub kernel-zero : j ≡ true → Gives (outcome t (set_up_on_sizes t k a ka)) (refused_reply (code_number e4)) t
       unfolding set_up_row
-      kernel-zero q f = rw (passes (zero-key key), passes (zero-address address), refuses (zero-kernel q)) (refusal t e4 f)
+      kernel-zero q = rw (passes (zero-key key), passes (zero-address address), refuses (zero-kernel q)) (refusal t e4)
 
       module _ (kernel : j ≡ false) where
         is-key : IsKey (num k)
@@ -58,11 +59,11 @@ module _ {t k a ka : Bytes} (z : RightSizes t k a ka) (kb : AllBytes k) (ab : Al
         is-kernel : IsAddress (num ka)
         is-kernel = record { non_zero = non_zero (num ka) (sym h ∙ kernel); fits = num-fits address_bytes ka kab z.kernel_size }
 
-        pub set-up-no-room : length t < first_room → {r : Reply} → r ≡ refused_reply (code_number e7) → Gives (outcome t (set_up_on_sizes t k a ka)) r t
+        pub set-up-no-room : length t < first_room → Gives (outcome t (set_up_on_sizes t k a ka)) (refused_reply (code_number e7)) t
         unfolding set_up_row
-        set-up-no-room l f =
+        set-up-no-room l =
             let full = set-up-bytes (num k) (num a) (num ka) is-key is_address is-kernel t ∙ lt-ltb (length t) first_room l in
-            rw (passes (zero-key key), passes (zero-address address), passes (zero-kernel kernel), refuses full) (refusal t e7 f)
+            rw (passes (zero-key key), passes (zero-address address), passes (zero-kernel kernel), refuses full) (refusal t e7)
 
         module _ (l : first_room ≤ length t) where
           pub set-up-lent : SetUpLent t k a ka
@@ -79,8 +80,8 @@ module _ {t k a ka : Bytes} (z : RightSizes t k a ka) (kb : AllBytes k) (ab : Al
               }
 
           pub set-up-done : {t' : Bytes} → t' ≡ bytes (length t) (fresh (num k) (num a) (num ka))
-              → {r : Reply} → r ≡ reply_of done → Gives (outcome t (set_up_on_sizes t k a ka)) r t'
-          unfolding set_up_row
-          set-up-done q f =
+              → Gives (outcome t (set_up_on_sizes t k a ka)) (Ok Done) t'
+          unfolding set_up_row reply_of
+          set-up-done q =
               let space = set-up-bytes (num k) (num a) (num ka) is-key is_address is-kernel t ∙ le-ltb (length t) first_room l in
-              rw (passes (zero-key key), passes (zero-address address), passes (zero-kernel kernel), passes space, ends) (changes t _ _ f q)
+              rw (passes (zero-key key), passes (zero-address address), passes (zero-kernel kernel), passes space, ends) (changes t _ _ q)

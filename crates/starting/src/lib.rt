@@ -4,7 +4,7 @@ ghost use Rattle.rules.specs.Answers.{outcome};
 ghost use Rattle.results.specs.Results.{Gives};
 ghost use Rattle.starting.specs.Starting.{RightSizes, set_up_on_sizes};
 
-use rules::{Refusal, Reply};
+use rules::{Refusal, Reply, Success};
 
 // The bytes of the 13 records that set-up needs.
 const FIRST_ROOM: usize = 13 * rules::RECORD_SIZE;
@@ -15,17 +15,17 @@ pub fn set_up_fresh(t: &mut [u8], key: &[u8], address: &[u8], kernel_address: &[
     ensures { Gives (outcome t.old (set_up_on_sizes t.old key.now address.now kernel_address.now)) result t.new }
 {
     if words::is_zero(key) {
-        return Reply::refused(Refusal::ZERO);
+        return Err(Refusal::ZERO);
     }
     if words::is_zero(address) {
-        return Reply::refused(Refusal::ZERO);
+        return Err(Refusal::ZERO);
     }
     if words::is_zero(kernel_address) {
-        return Reply::refused(Refusal::ZERO);
+        return Err(Refusal::ZERO);
     }
     if t.len() < FIRST_ROOM {
-        return Reply::refused(Refusal::NO_ROOM);
+        return Err(Refusal::NO_ROOM);
     }
     founding::found(t, key, address, kernel_address);
-    Reply::done()
+    Ok(Success::Done)
 }

@@ -1,11 +1,6 @@
 -- Several calls on one table, one after the other. A caller keeps `Stored n t used s`: it gives what the next call requires,
 -- and what that call promises of its own table and store is again `Stored` of the caller's.
-use Prim.Native.Nat.{ℕ, ◌+◌, ◌*◌, ◌≤◌}
-use native.Mathlib.Omega.{arith}
-use mathlib.Core.Path.{◌≡◌, refl, sym, ap, ◌∙◌}
-use mathlib.Core.Logic.{◌≢◌}
-use mathlib.Core.Bool.{true}
-use lib.ListN.{length}
+use Rattle.std.proofs.Common.{ℕ, ◌+◌, ◌*◌, ◌≤◌, arith, ◌≡◌, refl, sym, ap, ◌∙◌, ◌≢◌, true, length}
 use Rattle.rules.specs.Words.{Bytes, num}
 use Rattle.rules.specs.Table.{Store, Ascending, Sized, get, put, room, store, record_form}
 use Rattle.laws.proofs.Stores.{put-length, put-zero-length, put-no-longer}

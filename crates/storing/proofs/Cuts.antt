@@ -1,12 +1,8 @@
 -- A table is its records' bytes and then zeros. It can be cut at every record, so what moving bytes leaves of it is again the
 -- bytes of records and then zeros: of those with one put in, of those without some, of those with another value. Where room is made
 -- zeros stand between them too.
-use Prim.Native.Nat.{ℕ, suc, ◌+◌, ◌*◌, ◌-◌, ◌≤◌, ◌<◌}
-use native.Mathlib.Omega.{arith}
-use mathlib.Core.Path.{◌≡◌, sym, ap, ◌∙◌}
-use mathlib.Core.List.{◌∷◌, ◌++◌, append_assoc}
-use lib.ListN.{length, take, drop, replicate, length-append, length-drop, length-replicate, take-append-drop, replicate-append-replicate}
-use lib.Seq.{take_at, drop_at, drop-drop, length-take-le}
+use Rattle.std.proofs.Common.{ℕ, suc, ◌+◌, ◌*◌, ◌-◌, ◌≤◌, ◌<◌, arith, ◌≡◌, sym, ap, ◌∙◌, ◌∷◌, ◌++◌, append_assoc, length, take, drop, replicate, length-append, length-drop, take-append-drop, take_at, drop_at, drop-drop, length-take-le}
+use lib.ListN.{length-replicate, replicate-append-replicate}
 use Rattle.rules.specs.Words.{Bytes, word}
 use Rattle.rules.specs.Table.{Store, ◌holds◌, record_bytes}
 use Rattle.laws.proofs.Words.{length-word}

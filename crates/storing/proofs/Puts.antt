@@ -1,13 +1,6 @@
 -- Each of the four ways of `put` leaves the bytes of the store with the key set, and the bytes of an ascending store of words
 -- are a table that holds it.
-use Prim.Native.Nat.{ℕ, zero, suc, ◌+◌, ◌*◌, ◌-◌, ◌^◌, ◌≤◌, ◌<◌}
-use native.Mathlib.Omega.{arith}
-use native.Mathlib.Numerals.{add-one}
-use mathlib.Core.Path.{◌≡◌, sym, ap, ◌∙◌}
-use mathlib.Core.List.{◌++◌}
-use mathlib.Core.Bool.{true, false}
-use lib.Dec.{eqb}
-use lib.ListN.{length, take, drop, replicate}
+use Rattle.std.proofs.Common.{ℕ, zero, suc, ◌+◌, ◌*◌, ◌-◌, ◌^◌, ◌≤◌, ◌<◌, arith, add-one, ◌≡◌, sym, ap, ◌∙◌, ◌++◌, true, false, eqb, length, take, drop, replicate}
 use Rattle.rules.specs.Words.{Bytes, AllBytes, num, word}
 use Rattle.rules.specs.Table.{Store, Record, Ascending, Sized, put, record_before, record_bytes, bytes, room, store, record_form}
 use Rattle.laws.proofs.Lists.{every_append, every_take, every_drop}

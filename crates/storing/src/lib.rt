@@ -5,7 +5,6 @@ ghost use Rattle.rules.specs.Words.{word_bytes, num};
 ghost use Rattle.rules.specs.Table.{put, room, store, record_form};
 ghost use Rattle.storing.specs.Storing.{Stored};
 
-use records::Place;
 pub use room::needed;
 
 // Sets a key to a value; zero removes its record. The result is how many records are then occupied.
@@ -19,7 +18,7 @@ pub fn put(t: &mut [u8], used: usize, key: &[u8], value: &[u8]) -> usize
     let removes = words::is_zero(value);
     // Records are often put in ascending order, so the end is tried first.
     match records::find_near(t, used, used, key) {
-        Place::Has(i) => {
+        Ok(i) => {
             if removes {
                 closing::close(t, i, i + 1, used);
                 used - 1
@@ -28,7 +27,7 @@ pub fn put(t: &mut [u8], used: usize, key: &[u8], value: &[u8]) -> usize
                 used
             }
         }
-        Place::Gap(i) => {
+        Err(i) => {
             if removes {
                 used
             } else {

@@ -1,12 +1,6 @@
 -- Two sums of words, compared limb by limb from the end: what is left to compare are the bytes before, with a carry.
-use Prim.Native.Nat.{ℕ, ◌+◌, ◌*◌, ◌-◌, ◌%◌, ◌≤◌, ◌<◌}
-use native.Mathlib.Nat.{zero-add}
-use native.Mathlib.Omega.{arith}
-use mathlib.Core.Path.{◌≡◌, refl, sym, ap, ◌∙◌}
-use lib.Dec.{leb}
-use lib.ListN.{take}
-use lib.Seq.{take_all}
-use Rattle.rules.specs.Words.{Bytes, num, num_after}
+use Rattle.std.proofs.Common.{ℕ, ◌+◌, ◌*◌, ◌≤◌, ◌<◌, ◌≡◌, ap, ◌∙◌, arith, leb, take, take_all}
+use Rattle.rules.specs.Words.{Bytes, num}
 use Rattle.laws.proofs.Tests.{leb-same}
 use Rattle.limbs.specs.Limbs.{limb_base, Limb}
 use Rattle.sums.specs.Sums.{carry_of}
@@ -27,7 +21,6 @@ pub record Sums (p q a n : Bytes) (at carry : ℕ) : Type 0 where
   pub word_a : Word a
   pub word_n : Word n
   pub within : at ≤ 32
-  pub whole : at % 4 ≡ 0
   pub small : carry ≤ 3
   pub left : leb (num p + num q) (num a + num n) ≡ leb (num (take at p) + num (take at q) + 2) (num (take at a) + num (take at n) + carry)
 
@@ -39,7 +32,6 @@ sums-all {p} {q} {a} {n} vp vq va vn =
       word_a = va;
       word_n = vn;
       within = omega arith;
-      whole = refl;
       small = omega arith;
       left =
           rw (all p vp, all q vq, all a va, all n vn)
@@ -49,32 +41,22 @@ sums-all {p} {q} {a} {n} vp vq va vn =
     all : (w : Bytes) → Word w → take 32 w ≡ w
     all w v = take_all 32 w (omega arith)
 
-pub sums-less : {p q a n : Bytes} {at c x y u v r : ℕ} → Sums p q a n at c → 0 < at
-    → Limb p (at - 4) x → Limb q (at - 4) y → Limb a (at - 4) u → Limb n (at - 4) v
-    → r ≡ carry_of x y u v c → r ≤ 3 → Sums p q a n (at - 4) r
-sums-less {p} {q} {a} {n} {at} {c} {x} {y} {u} {v} {r} s h lp lq la ln e l =
+pub sums-less : {p q a n : Bytes} {at from c x y u v r : ℕ} → Sums p q a n at c → at ≡ from + 4
+    → Limb p from x → Limb q from y → Limb a from u → Limb n from v → r ≡ carry_of x y u v c → r ≤ 3 → Sums p q a n from r
+sums-less {p} {q} {a} {n} {at} {from} {c} {x} {y} {u} {v} {r} s back lp lq la ln e l =
     record {
       word_p = s.word_p;
       word_q = s.word_q;
       word_a = s.word_a;
       word_n = s.word_n;
       within = omega arith;
-      whole = omega arith;
       small = l;
       left =
           s.left
           ∙ rw (next s.word_p lp, next s.word_q lq, next s.word_a la, next s.word_n ln, e)
-          (carried_on (num (take (at - 4) p)) (num (take (at - 4) q)) (num (take (at - 4) a)) (num (take (at - 4) n)) x y u v c
+          (carried_on (num (take from p)) (num (take from q)) (num (take from a)) (num (take from n)) x y u v c
           lp.fits lq.fits);
     }
   where
-    next : {w : Bytes} {z : ℕ} → Word w → Limb w (at - 4) z → num (take at w) ≡ num (take (at - 4) w) * limb_base + z
-    next {w} w-is l-is =
-        let back : at ≡ at - 4 + 4 = omega arith in
-        ap (λ (k : ℕ). num (take k w)) back ∙ limb-more w-is (omega arith) l-is
-
-pub sums_none : {p q a n : Bytes} {at c : ℕ} → Sums p q a n at c → at ≤ 0 → leb 2 c ≡ leb (num p + num q) (num a + num n)
-unfolding num num_after
-sums_none {at = at} s h =
-    let z : at ≡ 0 = omega arith in
-    sym (s.left ∙ rw z (simp zero-add))
+    next : {w : Bytes} {z : ℕ} → Word w → Limb w from z → num (take at w) ≡ num (take from w) * limb_base + z
+    next {w} w-is l-is = ap (λ (k : ℕ). num (take k w)) back ∙ limb-more w-is (omega arith) l-is

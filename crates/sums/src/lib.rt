@@ -5,6 +5,9 @@ ghost use Rattle.rules.specs.Words.{word_bytes, num};
 ghost use Rattle.limbs.specs.Limbs.{limb_base};
 ghost use Rattle.sums.specs.Sums.{carry_of};
 
+// A word's limbs.
+const LIMBS: usize = rules::WORD_BYTES / limbs::LIMB_BYTES;
+
 // Whether p + q is at most a + n, for words p, q, a and n. The sums are whole numbers and never wrap: from the last limb to
 // the first, `carry` is how far a + n is ahead so far, two too large so that it is never negative.
 pub fn sums_at_most(p: &[u8], q: &[u8], a: &[u8], n: &[u8]) -> bool
@@ -13,9 +16,8 @@ pub fn sums_at_most(p: &[u8], q: &[u8], a: &[u8], n: &[u8]) -> bool
     ensures { result ≡ leb (num p.now + num q.now) (num a.now + num n.now) }
 {
     let mut carry: u64 = 2;
-    let mut at = rules::WORD_BYTES;
-    while 0 < at {
-        at -= limbs::LIMB_BYTES;
+    for i in (0..LIMBS).rev() {
+        let at = limbs::LIMB_BYTES * i;
         carry = carried(
             limbs::limb(p, at),
             limbs::limb(q, at),

@@ -1,4 +1,5 @@
 -- The row before a message's own type: what its type names, its data's length, and leading bytes.
+use Rattle.std.proofs.Common.{Ok}
 use Prim.Native.Nat.{ℕ, ◌≤◌, ◌<◌}
 use native.Mathlib.Omega.{arith}
 use mathlib.Core.Path.{◌≡◌, refl, sym, ap, ◌∙◌}
@@ -12,8 +13,8 @@ use Rattle.rules.specs.Capabilities.{Kind, number}
 use Rattle.rules.specs.Messages.{Named as Meaning, null, unknown, of_kind, greatest_message, data_of, minimum, overlong, leading_bytes}
 use Rattle.rules.specs.Answers.{aa, e0, eb, e6, code_number, done, outcome}
 use Rattle.rules.specs.Calls.{do_kind, format_row, named_row, do_named}
-use Rattle.rules.specs.Source.{refused_reply, reply_of, minimum_of, OfType}
-use Rattle.rules.specs.declared.Reply.{Reply}
+use Rattle.rules.specs.Source.{refused_reply, reply_of, minimum_of, OfType, Reply}
+use Rattle.rules.specs.declared.Success.TheVariants.{Done}
 use Rattle.rules.specs.declared.Kind.{Kind as Number}
 use Rattle.messages.specs.Messages.{named_of, overlong_of}
 use Rattle.messages.specs.declared.Named.{Named}
@@ -89,34 +90,34 @@ module _ (t d code mask : Bytes) (m : Meaning) where
   abbrev row : Reply → Bytes → Type 0
   row r t' = Gives (outcome t (do_named (room t) (store t) d code mask m)) r t'
 
-  pub null-refused : m ≡ null → 0 < length d → {r : Reply} → r ≡ refused_reply (code_number eb) → row r t
+  pub null-refused : m ≡ null → 0 < length d → row (refused_reply (code_number eb)) t
   unfolding format_row named_row
-  null-refused q more f = rw (q, refuses (lt-ltb 0 (length d) more)) (refusal t eb f)
+  null-refused q more = rw (q, refuses (lt-ltb 0 (length d) more)) (refusal t eb)
 
-  pub null-done : m ≡ null → length d ≤ 0 → {r : Reply} → r ≡ reply_of done → row r t
-  unfolding format_row named_row
-  null-done q empty f = rw (q, passes (le-ltb 0 (length d) empty), ends) (answers t done f)
+  pub null-done : m ≡ null → length d ≤ 0 → row (Ok Done) t
+  unfolding format_row named_row reply_of
+  null-done q empty = rw (q, passes (le-ltb 0 (length d) empty), ends) (answers t done)
 
-  pub unknown-refused : m ≡ unknown → {r : Reply} → r ≡ refused_reply (code_number aa) → row r t
+  pub unknown-refused : m ≡ unknown → row (refused_reply (code_number aa)) t
   unfolding format_row named_row
-  unknown-refused q f = rw (q, refuses refl) (refusal t aa f)
+  unknown-refused q = rw (q, refuses refl) (refusal t aa)
 
   module _ {n : ℕ} (named : NamesType m n) {s : Bool} (e : s ≡ ltb (length d) (minimum_of n)) where
-    pub short-refused : s ≡ true → {r : Reply} → r ≡ refused_reply (code_number e0) → row r t
+    pub short-refused : s ≡ true → row (refused_reply (code_number e0)) t
     unfolding format_row named_row
-    short-refused q f = rw (named.is, refuses (is-short d named e q)) (refusal t e0 f)
+    short-refused q = rw (named.is, refuses (is-short d named e q)) (refusal t e0)
 
     module _ (not_short : s ≡ false) {o : Bool} (v : o ≡ overlong_of n d) where
-      pub overlong-refused : o ≡ true → {r : Reply} → r ≡ refused_reply (code_number eb) → row r t
+      pub overlong-refused : o ≡ true → row (refused_reply (code_number eb)) t
       unfolding format_row named_row
-      overlong-refused q f = rw (named.is, passes (is-short d named e not_short), refuses (is-overlong d named v q)) (refusal t eb f)
+      overlong-refused q = rw (named.is, passes (is-short d named e not_short), refuses (is-overlong d named v q)) (refusal t eb)
 
       module _ (not_overlong : o ≡ false) {l : Bool} (g : OfType n (λ k. l ≡ leading_bytes k d)) where
-        pub leading-refused : l ≡ true → {r : Reply} → r ≡ refused_reply (code_number e6) → row r t
+        pub leading-refused : l ≡ true → row (refused_reply (code_number e6)) t
         unfolding format_row named_row
-        leading-refused q f =
+        leading-refused q =
             rw (named.is, passes (is-short d named e not_short), passes (is-overlong d named v not_overlong), refuses (has-leading d named g q))
-            (refusal t e6 f)
+            (refusal t e6)
 
         pub own_row : l ≡ false → {r : Reply} {t' : Bytes} → OfType n (λ k. Gives (outcome t (do_kind (room t) (store t) d code mask k)) r t')
             → row r t'

@@ -9,8 +9,7 @@ use Rattle.rules.specs.Capabilities.{Kind, call, register, delete, set_entry, wr
 use Rattle.rules.specs.Messages.{minimum, leading_bytes, key_too_long, address_too_long}
 use Rattle.rules.specs.Answers.{outcome}
 use Rattle.rules.specs.Calls.{do_kind}
-use Rattle.rules.specs.Source.{OfType}
-use Rattle.rules.specs.declared.Reply.{Reply}
+use Rattle.rules.specs.Source.{OfType, Reply}
 use Rattle.laws.proofs.Bools.{or_left, or_right}
 use Rattle.laws.proofs.KindFacts.{number-inj}
 use Rattle.registering.specs.Registering.{NamesProcedure}

@@ -11,7 +11,7 @@ ghost use Rattle.results.specs.Results.{SoundWith, Gives};
 ghost use Rattle.system.specs.System.{Acceptable};
 
 use messages::Named;
-use rules::{Kind, Refusal, Reply};
+use rules::{Kind, Refusal, Reply, Success};
 
 // The row of a message's own type, on a sound table.
 fn of_kind(t: &mut [u8], used: usize, kind: Kind, d: &[u8], code: &[u8], mask: &[u8]) -> Reply
@@ -19,20 +19,13 @@ fn of_kind(t: &mut [u8], used: usize, kind: Kind, d: &[u8], code: &[u8], mask: &
     requires acceptable { Acceptable kind.0 d.now mask.now }
     ensures { OfType kind.0 (λ k. Gives (outcome t.old (do_kind (room t.old) (store t.old) d.now code.now mask.now k)) result t.new) }
 {
-    let number = kind.0;
-    if number == Kind::CALL.0 {
-        return calls::call(t, used, d);
+    match kind {
+        Kind::CALL => calls::call(t, used, d),
+        Kind::REGISTER => registering::register(t, used, d, code, mask),
+        Kind::DELETE => deleting::delete(t, used, d),
+        Kind::SET_ENTRY => calls::set_entry(t, used, d),
+        _ => calls::write(t, used, d),
     }
-    if number == Kind::REGISTER.0 {
-        return registering::register(t, used, d, code, mask);
-    }
-    if number == Kind::DELETE.0 {
-        return deleting::delete(t, used, d);
-    }
-    if number == Kind::SET_ENTRY.0 {
-        return calls::set_entry(t, used, d);
-    }
-    calls::write(t, used, d)
 }
 
 // A message on a sound table: aa; then Null, which is 66 eb with data and succeeds without; 66 e0 for short data, 66 eb, 66 e6;
@@ -44,26 +37,26 @@ pub fn of_message(t: &mut [u8], used: usize, message: &[u8], code: &[u8], mask: 
 {
     let d = messages::data_of(message);
     match messages::named_by(message) {
-        Named::Unknown => Reply::refused(Refusal::UNKNOWN_TYPE),
+        Named::Unknown => Err(Refusal::UNKNOWN_TYPE),
         Named::Null => {
             if 0 < d.len() {
-                Reply::refused(Refusal::OVERLONG)
+                Err(Refusal::OVERLONG)
             } else {
-                Reply::done()
+                Ok(Success::Done)
             }
         }
         Named::Of(kind) => {
             if messages::short(kind, d) {
-                return Reply::refused(Refusal::SHORT);
+                return Err(Refusal::SHORT);
             }
             // Both are asked first, so that nothing but the order of the two tests says which code comes first.
             let overlong = messages::overlong(kind, d);
             let leading = messages::leading(kind, d);
             if overlong {
-                return Reply::refused(Refusal::OVERLONG);
+                return Err(Refusal::OVERLONG);
             }
             if leading {
-                return Reply::refused(Refusal::LEADING_BYTES);
+                return Err(Refusal::LEADING_BYTES);
             }
             of_kind(t, used, kind, d, code, mask)
         }

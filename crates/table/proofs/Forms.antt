@@ -1,22 +1,13 @@
 -- Whether a table has the record form. `run` passes the occupied records and compares neighbouring keys: its invariant says what is
 -- left of the count and of the ascent. The last test is that the bytes behind the records stand for zero.
-use Prim.Native.Nat.{ℕ, zero, suc, ◌+◌, ◌*◌, ◌/◌, ◌%◌, ◌-◌, ◌≤◌, ◌<◌}
-use native.Mathlib.Omega.{arith}
-use mathlib.Core.Path.{◌≡◌, refl, sym, ap, ◌∙◌}
-use mathlib.Core.List.{[], ◌∷◌, ◌++◌}
-use mathlib.Core.Bool.{Bool, true, false, ◌&&◌}
-use lib.Dec.{eqb, ltb}
-use lib.ListN.{length, take, drop, replicate, length-drop, drop_of_length-le}
-use lib.Seq.{drop-drop, take_all}
-use borrow.Author.Tests.{eqb-true, eqb-false, eq-eqb, ne_eqb, le-leb, lt-leb, lt-ltb, ltb-true, ltb-false}
+use Rattle.std.proofs.Common.{ℕ, zero, suc, ◌+◌, ◌*◌, ◌/◌, ◌%◌, ◌-◌, ◌≤◌, ◌<◌, arith, ◌≡◌, refl, sym, ap, ◌∙◌, [], ◌∷◌, ◌++◌, Bool, true, false, ◌&&◌, eqb, ltb, length, take, drop, replicate, length-drop, drop_of_length-le, drop-drop, take_all, eqb-true, eq-eqb, ne_eqb, le-leb, lt-ltb, ltb-true, ltb-false, Option, None, Some}
+use borrow.Author.Tests.{eqb-false, lt-leb}
 use Rattle.rules.specs.Words.{Bytes, AllBytes, num_after, num, word_at, same_bytes}
 use Rattle.rules.specs.Table.{Store, Record, ◌holds◌, record_bytes, bytes, room, occupied, store, length_fits, ascending_above, ascending, record_form}
 use Rattle.laws.proofs.Numerals.{num-zero}
 use Rattle.laws.proofs.Words.{drop-bytes}
 use Rattle.laws.proofs.TableRecords.{records-rest, record-at, store-within}
 use Rattle.table.specs.Tables.{climbs_at, run_of, form_of}
-use Rattle.table.specs.declared.Form.{Form}
-use Rattle.table.specs.declared.Form.TheVariants.{Used, Bad}
 
 -- Counting the occupied records: i of n are passed.
 pub record Counted (t : Bytes) (n i : ℕ) : Type 0 where
@@ -128,9 +119,9 @@ run-starts t = record { counted = count-starts t; climbed = refl }
 
 module _ {t : Bytes} {n i : ℕ} (s : Run t n i) where
   -- the occupied records end here
-  run_ends : i ≡ length (store t) → Used i ≡ run_of t
+  run_ends : i ≡ length (store t) → Some i ≡ run_of t
   unfolding run_of ascending ascending_above
-  run_ends e = ap Used e ∙ sym (rw (s.climbed ∙ go (drop (i - 1) (store t)) refl, run_of))
+  run_ends e = ap Some e ∙ sym (rw (s.climbed ∙ go (drop (i - 1) (store t)) refl, run_of))
     where
       go : (d : Store) → drop (i - 1) (store t) ≡ d → ascending d ≡ true
       go [] q = refl
@@ -139,10 +130,10 @@ module _ {t : Bytes} {n i : ℕ} (s : Run t n i) where
           let past : length (store t) ≤ suc (i - 1) = omega arith in
           sym (ap ascending q) ∙ ascends-from t (i - 1) inside ∙ rw (drop_of_length-le (store t) past)
 
-  pub run-stops : i < n → eqb (word_at t (64 * i + 32)) 0 ≡ true → Used i ≡ run_of t
+  pub run-stops : i < n → eqb (word_at t (64 * i + 32)) 0 ≡ true → Some i ≡ run_of t
   run-stops h z = run_ends (count-stops s.counted h z)
 
-  pub run-ends-full : n ≤ i → Used n ≡ run_of t
+  pub run-ends-full : n ≤ i → Some n ≡ run_of t
   run-ends-full h =
       let all : n ≡ i = omega (arith, s.counted.inside) in
       rw all (run_ends (sym all ∙ count-ends s.counted h))
@@ -160,7 +151,7 @@ module _ {t : Bytes} {n i : ℕ} (s : Run t n i) where
         let here : i + 1 - 1 ≡ i = omega arith in
         record { counted = next; climbed = rw here (climbs-on t i inside s.climbed l) }
 
-    pub run-falls : climbs_at t i ≡ false → Bad ≡ run_of t
+    pub run-falls : climbs_at t i ≡ false → None ≡ run_of t
     unfolding run_of
     run-falls l = sym (rw (climbs-not t i inside s.climbed l, run_of))
 
@@ -208,30 +199,30 @@ unfolding record_form length_fits
 form-too-long t h l = rw (eq-eqb (length t % 64) 0 h, lt-leb (length t) 65536 l)
 
 -- the answer of `form_of`
-pub form-bad : (t : Bytes) → record_form t ≡ false → Bad ≡ form_of t
+pub form-bad : (t : Bytes) → record_form t ≡ false → None ≡ form_of t
 unfolding form_of
 form-bad t q = sym (rw (q, form_of))
 
 -- what the answer of `run` says of the table and of the number in it
-module _ (t : Bytes) {r : Form} (e : r ≡ run_of t) where
-  run-ascends : {n : ℕ} → r ≡ Used n → ascending (store t) ≡ true
+module _ (t : Bytes) {r : Option ℕ} (e : r ≡ run_of t) where
+  run-ascends : {n : ℕ} → r ≡ Some n → ascending (store t) ≡ true
   unfolding run_of
   run-ascends h = go (ascending (store t)) refl
     where
       go : (b : Bool) → ascending (store t) ≡ b → ascending (store t) ≡ true
       go true q = q
-      go false q = let bad : run_of t ≡ Bad = rw (q, run_of) in let z : ◌≡◌ {A = ℕ} 0 1 = cc in absurd (omega arith)
+      go false q = let bad : run_of t ≡ None = rw (q, run_of) in let z : ◌≡◌ {A = ℕ} 0 1 = cc in absurd (omega arith)
 
-  run-count : {n : ℕ} → r ≡ Used n → n ≡ length (store t)
+  run-count : {n : ℕ} → r ≡ Some n → n ≡ length (store t)
   unfolding run_of
-  run-count h = let good : run_of t ≡ Used (length (store t)) = rw (run-ascends h, run_of) in cc
+  run-count h = let good : run_of t ≡ Some (length (store t)) = rw (run-ascends h, run_of) in cc
 
-  run-bad : r ≡ Bad → ascending (store t) ≡ false
+  run-bad : r ≡ None → ascending (store t) ≡ false
   unfolding run_of
   run-bad h = go (ascending (store t)) refl
     where
       go : (b : Bool) → ascending (store t) ≡ b → ascending (store t) ≡ false
-      go true q = let good : run_of t ≡ Used (length (store t)) = rw (q, run_of) in let z : ◌≡◌ {A = ℕ} 0 1 = cc in absurd (omega arith)
+      go true q = let good : run_of t ≡ Some (length (store t)) = rw (q, run_of) in let z : ◌≡◌ {A = ℕ} 0 1 = cc in absurd (omega arith)
       go false q = q
 
 -- a table of the right length
@@ -240,12 +231,12 @@ pub record Sized (t : Bytes) : Type 0 where
   pub whole : length t % 64 ≡ 0
   pub short : length t ≤ 65536
 
-module _ {t : Bytes} (m : Sized t) {r : Form} (e : r ≡ run_of t) where
-  pub form-unsorted : r ≡ Bad → Bad ≡ form_of t
+module _ {t : Bytes} (m : Sized t) {r : Option ℕ} (e : r ≡ run_of t) where
+  pub form-unsorted : r ≡ None → None ≡ form_of t
   form-unsorted h = form-bad t (form-fits t m.lent m.whole m.short ∙ rw (run-bad t e h))
 
   -- its keys ascend, and `used` records are occupied
-  module _ {used : ℕ} (h : r ≡ Used used) where
+  module _ {used : ℕ} (h : r ≡ Some used) where
     pub used-within : 64 * used ≤ length t
     used-within = omega (arith, store-within t m.lent, run-count t e h)
 
@@ -258,30 +249,30 @@ module _ {t : Bytes} (m : Sized t) {r : Form} (e : r ≡ run_of t) where
     form-is : record_form t ≡ eqb (num behind) 0
     form-is = form-fits t m.lent m.whole m.short ∙ rw (run-ascends t e h, behind-is)
 
-    pub form-unclean : eqb (num behind) 0 ≡ false → Bad ≡ form_of t
+    pub form-unclean : eqb (num behind) 0 ≡ false → None ≡ form_of t
     form-unclean z = form-bad t (form-is ∙ z)
 
-    pub form-used : eqb (num behind) 0 ≡ true → Used used ≡ form_of t
+    pub form-used : eqb (num behind) 0 ≡ true → Some used ≡ form_of t
     unfolding form_of
-    form-used z = let good : record_form t ≡ true = form-is ∙ z in ap Used (run-count t e h) ∙ sym (rw (good, form_of))
+    form-used z = let good : record_form t ≡ true = form-is ∙ z in ap Some (run-count t e h) ∙ sym (rw (good, form_of))
 
 -- for callers: what the answer of `form_of` says of the table and of the number in it
-module _ (t : Bytes) {r : Form} (e : r ≡ form_of t) where
-  pub used-form : {n : ℕ} → r ≡ Used n → record_form t ≡ true
+module _ (t : Bytes) {r : Option ℕ} (e : r ≡ form_of t) where
+  pub used-form : {n : ℕ} → r ≡ Some n → record_form t ≡ true
   used-form h = go (record_form t) refl
     where
       go : (b : Bool) → record_form t ≡ b → record_form t ≡ true
       go true q = q
       go false q = let bad = form-bad t q in let z : ◌≡◌ {A = ℕ} 0 1 = cc in absurd (omega arith)
 
-  pub used-count : {n : ℕ} → r ≡ Used n → n ≡ length (store t)
+  pub used-count : {n : ℕ} → r ≡ Some n → n ≡ length (store t)
   unfolding form_of
-  used-count h = let good : form_of t ≡ Used (length (store t)) = rw (used-form h, form_of) in cc
+  used-count h = let good : form_of t ≡ Some (length (store t)) = rw (used-form h, form_of) in cc
 
-  pub bad-form : r ≡ Bad → record_form t ≡ false
+  pub bad-form : r ≡ None → record_form t ≡ false
   unfolding form_of
   bad-form h = go (record_form t) refl
     where
       go : (b : Bool) → record_form t ≡ b → record_form t ≡ false
-      go true q = let good : form_of t ≡ Used (length (store t)) = rw (q, form_of) in let z : ◌≡◌ {A = ℕ} 0 1 = cc in absurd (omega arith)
+      go true q = let good : form_of t ≡ Some (length (store t)) = rw (q, form_of) in let z : ◌≡◌ {A = ℕ} 0 1 = cc in absurd (omega arith)
       go false q = q

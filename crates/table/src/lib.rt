@@ -5,63 +5,48 @@ ghost use Rattle.rules.specs.Words.{word_bytes};
 ghost use Rattle.rules.specs.Table.{record_size};
 ghost use Rattle.table.specs.Tables.{climbs_at, run_of, form_of};
 
-// How many records are occupied, or that the table lacks the record form.
-#[derive(Clone, Copy)]
-pub enum Form {
-    Used(usize),
-    Bad,
-}
-
 // Whether the i-th key is above the one before it; the first has none before it.
 fn climbs(t: &[u8], i: usize) -> bool
     requires { record_size * i + word_bytes ≤ length t.now }
     ensures { result ≡ climbs_at t.now i }
 {
-    if i == 0 {
-        return true;
-    }
-    let before = moves::word_at(t, rules::RECORD_SIZE * (i - 1));
-    words::below(before, moves::word_at(t, rules::RECORD_SIZE * i))
+    i == 0
+        || words::below(
+            moves::word_at(t, rules::RECORD_SIZE * (i - 1)),
+            moves::word_at(t, rules::RECORD_SIZE * i),
+        )
 }
 
 // How many records are occupied, those before the first whose value is zero, if their keys ascend.
-fn run(t: &[u8]) -> Form
+fn run(t: &[u8]) -> Option<usize>
     ensures { result ≡ run_of t.now }
 {
     let n = t.len() / rules::RECORD_SIZE;
-    let mut i = 0;
-    while i < n {
+    for i in 0..n {
         if words::is_zero(moves::word_at(t, rules::RECORD_SIZE * i + rules::WORD_BYTES)) {
-            return Form::Used(i);
+            return Some(i);
         }
-        if climbs(t, i) {
-            i += 1;
-        } else {
-            return Form::Bad;
+        if !climbs(t, i) {
+            return None;
         }
     }
-    Form::Used(n)
+    Some(n)
 }
 
-// Whether a table has the record form, and how many records are then occupied.
-pub fn form_of(t: &[u8]) -> Form
+// How many records are occupied, if a table has the record form.
+pub fn form_of(t: &[u8]) -> Option<usize>
     ensures { result ≡ form_of t.now }
 {
     if t.len() % rules::RECORD_SIZE != 0 {
-        return Form::Bad;
+        return None;
     }
     if rules::GREATEST_TABLE < t.len() {
-        return Form::Bad;
+        return None;
     }
-    match run(t) {
-        Form::Used(used) => {
-            let end = rules::RECORD_SIZE * used;
-            if words::is_blank(&t[end..]) {
-                Form::Used(used)
-            } else {
-                Form::Bad
-            }
-        }
-        Form::Bad => Form::Bad,
+    let used = run(t)?;
+    if words::is_blank(&t[rules::RECORD_SIZE * used..]) {
+        Some(used)
+    } else {
+        None
     }
 }

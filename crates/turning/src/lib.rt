@@ -6,7 +6,7 @@ ghost use Rattle.rules.specs.Answers.{outcome};
 ghost use Rattle.results.specs.Results.{SoundWith, Gives};
 ghost use Rattle.turning.specs.Turning.{turn_on_sound};
 
-use rules::{Refusal, Reply};
+use rules::{Refusal, Reply, Success};
 
 // 66 33; then the current slot alone changes.
 pub fn turn_to(t: &mut [u8], used: usize, key: &[u8]) -> Reply
@@ -15,9 +15,9 @@ pub fn turn_to(t: &mut [u8], used: usize, key: &[u8]) -> Reply
     ensures { Gives (outcome t.old (turn_on_sound t.old key.now)) result t.new }
 {
     if !acting::is_listed(t, used, key) {
-        return Reply::refused(Refusal::NOT_LISTED);
+        return Err(Refusal::NOT_LISTED);
     }
     let slot = slots::current_slot();
     storing::put(t, used, &slot, &right::right_word(key));
-    Reply::done()
+    Ok(Success::Done)
 }

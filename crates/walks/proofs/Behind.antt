@@ -1,10 +1,6 @@
 -- The records from a key on: what is left of a store behind the records with lower keys says the same of every key from there on.
 -- And the records from a number on: the first of them has its value in the store.
-use Prim.Native.Nat.{ℕ, zero, suc, ◌≤◌}
-use native.Mathlib.Omega.{arith}
-use mathlib.Core.Path.{◌≡◌, refl, ◌∙◌}
-use mathlib.Core.List.{[], ◌∷◌}
-use lib.ListN.{drop}
+use Rattle.std.proofs.Common.{ℕ, zero, suc, ◌≤◌, arith, ◌≡◌, refl, ◌∙◌, [], ◌∷◌, drop}
 use Rattle.rules.specs.Table.{Record, Store, get, Ascending}
 use Rattle.laws.proofs.Stores.{get-here, get-past, ascending-lower}
 use Rattle.finding.specs.Finding.{keys_below}

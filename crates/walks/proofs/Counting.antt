@@ -1,11 +1,6 @@
 -- Records whose values are different numbers from 1 to n: there are at most n of them, and where there are n each number is a value.
 -- With each record one number goes from those that are left, since the value decides the key and keys ascend.
-use Prim.Native.Nat.{ℕ, zero, suc, ◌+◌, ◌≤◌, ◌<◌}
-use native.Mathlib.Omega.{arith}
-use mathlib.Core.Path.{◌≡◌, refl, sym, ap, ◌∙◌}
-use mathlib.Core.Logic.{◌≢◌, ◌⊎◌, inl, inr}
-use mathlib.Core.List.{List, [], ◌∷◌}
-use lib.ListN.{length}
+use Rattle.std.proofs.Common.{ℕ, zero, suc, ◌+◌, ◌≤◌, ◌<◌, arith, ◌≡◌, refl, sym, ap, ◌∙◌, ◌≢◌, ◌⊎◌, inl, inr, List, [], ◌∷◌, length}
 use Rattle.rules.specs.Words.{Every}
 use Rattle.rules.specs.Table.{Record, ◌holds◌, Store, get, put, Ascending}
 use Rattle.laws.proofs.Numbers.{same_or_not}

@@ -1,12 +1,6 @@
 -- Keys of kernel storage as numbers: they begin at the first slot, and region 00 ends before the list length.
 -- There a key is its front, which names the procedure, and its end of three bytes.
-use Prim.Native.Nat.{ℕ, suc, ◌+◌, ◌*◌, ◌/◌, ◌%◌, ◌-◌, ◌^◌, ◌≤◌, ◌<◌}
-use native.Mathlib.Omega.{arith}
-use native.Mathlib.Nat.{div-add-mod'}
-use mathlib.Core.Path.{◌≡◌, refl, sym, ap, ◌∙◌}
-use mathlib.Core.Bool.{true}
-use lib.Dec.{lit<}
-use borrow.Author.Tests.{eqb-true, eq-eqb}
+use Rattle.std.proofs.Common.{ℕ, suc, ◌+◌, ◌*◌, ◌/◌, ◌%◌, ◌-◌, ◌^◌, ◌≤◌, ◌<◌, arith, div-add-mod', ◌≡◌, refl, sym, ap, ◌∙◌, true, lit<, eqb-true, eq-eqb}
 use Rattle.rules.specs.KernelStorage.{kernel_mark, in_kernel_storage, slot, ending, middle_of, end_second, end_third, length_slot, place_slot}
 use Rattle.laws.proofs.Numbers.{digits_div, digits_mod}
 use Rattle.laws.proofs.Slots.{fixed, slot-less-region}

@@ -1,12 +1,5 @@
 -- The index records of a store, which are as many as its procedures: a part of it that says the same of every procedure's index.
-use Prim.Native.Nat.{ℕ, suc, ◌%◌, ◌^◌, ◌≤◌, ◌<◌}
-use native.Mathlib.Omega.{arith}
-use mathlib.Core.Path.{◌≡◌, refl, sym, ◌∙◌}
-use mathlib.Core.Logic.{◌≢◌, ◌⊎◌, inl, inr}
-use mathlib.Core.List.{[], ◌∷◌}
-use mathlib.Core.Bool.{Bool, true, false, ◌&&◌}
-use lib.Dec.{eqb, ltb}
-use borrow.Author.Tests.{eq-eqb, lt-ltb}
+use Rattle.std.proofs.Common.{ℕ, suc, ◌%◌, ◌^◌, ◌≤◌, ◌<◌, arith, ◌≡◌, refl, sym, ◌∙◌, ◌≢◌, ◌⊎◌, inl, inr, [], ◌∷◌, Bool, true, false, ◌&&◌, eqb, ltb, eq-eqb, lt-ltb}
 use Rattle.rules.specs.Words.{Every}
 use Rattle.rules.specs.Table.{Record, Store, get, Ascending}
 use Rattle.rules.specs.KernelStorage.{length_slot}

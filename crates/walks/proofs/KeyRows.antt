@@ -1,13 +1,6 @@
 -- Ascending records and a row of rising keys: the records have these keys when each of the keys is present and no other is.
 -- The first record then has the first key, since neither can be lower than the other.
-use Prim.Native.Nat.{ℕ, suc, ◌≤◌}
-use native.Mathlib.Omega.{arith}
-use mathlib.Core.Path.{◌≡◌, refl, sym, ◌∙◌}
-use mathlib.Core.Logic.{◌≢◌, inl, inr}
-use mathlib.Core.List.{List, [], ◌∷◌}
-use mathlib.Core.Bool.{Bool, true, false, true≢false}
-use lib.Dec.{ltb}
-use borrow.Author.Tests.{eq-eqb, ltb-true, ltb-false}
+use Rattle.std.proofs.Common.{ℕ, suc, ◌≤◌, arith, ◌≡◌, refl, sym, ◌∙◌, ◌≢◌, inl, inr, List, [], ◌∷◌, Bool, true, false, true≢false, ltb, eq-eqb, ltb-true, ltb-false}
 use Rattle.rules.specs.Words.{Every, OneOf}
 use Rattle.rules.specs.Table.{Record, Store, get, Ascending}
 use Rattle.laws.proofs.Bools.{and_both, tests-true}

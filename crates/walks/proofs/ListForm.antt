@@ -1,14 +1,6 @@
 -- The records from the list length on. Their keys are the known row exactly when the list and the three slots behind it are present
 -- and nothing else is; then the row's places are the places of the list.
-use Prim.Native.Nat.{ℕ, zero, suc, ◌+◌, ◌-◌, ◌^◌, ◌≤◌, ◌<◌}
-use native.Mathlib.Omega.{arith}
-use native.Mathlib.Nat.{le_trans, lt_of_le_of_lt}
-use mathlib.Core.Path.{◌≡◌, refl, sym, ap, ◌∙◌}
-use mathlib.Core.Logic.{◌≢◌, ◌⊎◌, inl, inr}
-use mathlib.Core.List.{List, [], ◌∷◌}
-use mathlib.Core.Bool.{true, true≢false}
-use lib.Dec.{lit<}
-use lib.ListN.{length, drop, length-drop}
+use Rattle.std.proofs.Common.{ℕ, zero, suc, ◌+◌, ◌-◌, ◌^◌, ◌≤◌, ◌<◌, arith, le_trans, lt_of_le_of_lt, ◌≡◌, refl, sym, ap, ◌∙◌, ◌≢◌, ◌⊎◌, inl, inr, List, [], ◌∷◌, true, true≢false, lit<, length, drop, length-drop}
 use Rattle.rules.specs.Words.{Every, OneOf}
 use Rattle.rules.specs.Table.{Record, Store, get, Ascending, Sized}
 use Rattle.rules.specs.KernelStorage.{slot, address_slot, index_slot, count_slot, word_slot, length_slot, place_slot, kernel_address_slot, current_slot, entry_slot}

@@ -1,11 +1,6 @@
 -- What soundness says of one record of region 00, read by its key: its procedure stands in the list at the place that its index
 -- names and has an address, and the record is one of the four rows of a procedure. A store is sound by such records, and has them if it is.
-use Prim.Native.Nat.{ℕ, zero, suc, ◌%◌, ◌^◌, ◌≤◌, ◌<◌}
-use native.Mathlib.Omega.{arith}
-use mathlib.Core.Path.{◌≡◌, refl, sym, ap, ◌∙◌}
-use mathlib.Core.Logic.{◌≢◌, ◌⊎◌, inl, inr}
-use mathlib.Core.List.{[], ◌∷◌}
-use mathlib.Core.Bool.{true}
+use Rattle.std.proofs.Common.{ℕ, zero, suc, ◌%◌, ◌^◌, ◌≤◌, ◌<◌, arith, ◌≡◌, refl, sym, ap, ◌∙◌, ◌≢◌, ◌⊎◌, inl, inr, [], ◌∷◌, true}
 use Rattle.rules.specs.Table.{Store, get}
 use Rattle.rules.specs.KernelStorage.{slot, ending, middle_of, address_slot, index_slot, count_slot, word_slot, length_slot, kernel_address_slot, current_slot, entry_slot}
 use Rattle.rules.specs.Capabilities.{Kind, call, register, delete, set_entry, write, number, word_count, prefix_up_to, prefix_in_range, prefix, word_of, greatest_prefix}

@@ -1,10 +1,6 @@
 -- Where the walk stands: behind the key `before` the store and the records that are left say the same of every key of kernel storage.
 -- So the first record that is left has its value in the store, and no key is present between it and the key before.
-use Prim.Native.Nat.{ℕ, suc, ◌≤◌, ◌<◌}
-use native.Mathlib.Omega.{arith}
-use mathlib.Core.Path.{◌≡◌, refl, ◌∙◌}
-use mathlib.Core.Logic.{◌≢◌}
-use mathlib.Core.List.{[], ◌∷◌}
+use Rattle.std.proofs.Common.{ℕ, suc, ◌≤◌, ◌<◌, arith, ◌≡◌, refl, ◌∙◌, ◌≢◌, [], ◌∷◌}
 use Rattle.rules.specs.Words.{Every}
 use Rattle.rules.specs.Table.{Record, Store, get, Ascending}
 use Rattle.laws.proofs.Numbers.{Order, less, equal, more, order}

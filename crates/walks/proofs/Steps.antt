@@ -1,9 +1,5 @@
 -- The walk, one step at a time: it ends at the list length, goes on in a procedure, or begins the next one.
-use Prim.Native.Nat.{ℕ, suc}
-use mathlib.Core.Path.{◌≡◌}
-use mathlib.Core.List.{[], ◌∷◌}
-use mathlib.Core.Bool.{true, false, ◌&&◌}
-use lib.Dec.{eqb, leb}
+use Rattle.std.proofs.Common.{ℕ, suc, ◌≡◌, [], ◌∷◌, true, false, ◌&&◌, eqb, leb}
 use Rattle.rules.specs.Table.{Record, Store}
 use Rattle.rules.specs.KernelStorage.{length_slot}
 use Rattle.rules.specs.Procedures.{list_length}

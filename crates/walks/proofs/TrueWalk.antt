@@ -1,16 +1,9 @@
 -- From the records to the walk: where each record before the list length is one that soundness asks for, the walk answers true.
 -- A slot that must be present cannot stand between two records, so a procedure's first record is its address, the next one its index,
 -- and a word stands behind its type's count.
-use Prim.Native.Nat.{ℕ, suc, ◌+◌, ◌*◌, ◌%◌, ◌-◌, ◌^◌, ◌≤◌, ◌<◌}
-use native.Mathlib.Omega.{arith}
-use mathlib.Core.Path.{◌≡◌, refl, sym, ap, ◌∙◌}
-use mathlib.Core.Logic.{◌≢◌}
-use mathlib.Core.List.{[], ◌∷◌}
-use mathlib.Core.Bool.{Bool, true, false}
+use Rattle.std.proofs.Common.{ℕ, suc, ◌+◌, ◌*◌, ◌%◌, ◌-◌, ◌^◌, ◌≤◌, ◌<◌, arith, ◌≡◌, refl, sym, ap, ◌∙◌, ◌≢◌, [], ◌∷◌, Bool, true, false, eqb, leb, length, eqb-true, eq-eqb, ne_eqb, leb-true, leb-false}
 use mathlib.Core.Option.{some}
-use lib.Dec.{eqb, leb}
-use lib.ListN.{length}
-use borrow.Author.Tests.{eqb-true, eqb-false, eq-eqb, ne_eqb, leb-true, leb-false}
+use borrow.Author.Tests.{eqb-false}
 use Rattle.rules.specs.Table.{Record, Store, get}
 use Rattle.rules.specs.KernelStorage.{slot, ending, middle_of, end_second, end_third, address_slot, index_slot, length_slot}
 use Rattle.rules.specs.Capabilities.{Kind, kind_of, number}

@@ -1,14 +1,6 @@
 -- The walk and the test of soundness say the same of every ascending store of words. Each procedure has one index, and it names the
 -- place that holds the procedure's key; since there are as many indexes as places, each place has its procedure.
-use Prim.Native.Nat.{ℕ, suc, ◌%◌, ◌^◌, ◌≤◌, ◌<◌}
-use native.Mathlib.Omega.{arith}
-use native.Mathlib.Nat.{mod-lt, lt_of_le_of_lt, lt_of_lt_of_le}
-use mathlib.Core.Path.{◌≡◌, refl, sym, ap, ◌∙◌}
-use mathlib.Core.Logic.{◌≢◌}
-use mathlib.Core.Bool.{Bool, true, false}
-use lib.Dec.{ltb, lit<}
-use lib.ListN.{length, drop}
-use borrow.Author.Tests.{ltb-true, ltb-false}
+use Rattle.std.proofs.Common.{ℕ, suc, ◌%◌, ◌^◌, ◌≤◌, ◌<◌, arith, mod-lt, lt_of_le_of_lt, lt_of_lt_of_le, ◌≡◌, refl, sym, ap, ◌∙◌, ◌≢◌, Bool, true, false, ltb, lit<, length, drop, ltb-true, ltb-false}
 use Rattle.rules.specs.Words.{Every}
 use Rattle.rules.specs.Table.{Record, Store, get, Ascending, Sized}
 use Rattle.rules.specs.KernelStorage.{in_kernel_storage, slot, ending, middle_of, index_slot, length_slot}

@@ -1,15 +1,7 @@
 -- From the walk to the records: where it answers true, each record before the list length is one that soundness asks for, and there
 -- are as many indexes as places. What the walk carries, a procedure that stands and the number counted of a type, is what the store holds.
-use Prim.Native.Nat.{ℕ, suc, ◌+◌, ◌%◌, ◌^◌, ◌≤◌, ◌<◌}
-use native.Mathlib.Omega.{arith}
-use mathlib.Core.Path.{◌≡◌, refl, sym, ap, ◌∙◌}
-use mathlib.Core.Logic.{◌≢◌}
-use mathlib.Core.List.{[], ◌∷◌}
-use mathlib.Core.Bool.{Bool, true, false, true≢false}
+use Rattle.std.proofs.Common.{ℕ, suc, ◌+◌, ◌%◌, ◌^◌, ◌≤◌, ◌<◌, arith, ◌≡◌, refl, sym, ap, ◌∙◌, ◌≢◌, [], ◌∷◌, Bool, true, false, true≢false, eqb, leb, length, eqb-true, leb-true, leb-false}
 use mathlib.Core.Option.{Option, none, some}
-use lib.Dec.{eqb, leb}
-use lib.ListN.{length}
-use borrow.Author.Tests.{eqb-true, leb-true, leb-false}
 use Rattle.rules.specs.Words.{Every}
 use Rattle.rules.specs.Table.{Record, Store, get, Ascending}
 use Rattle.rules.specs.KernelStorage.{slot, ending, middle_of, end_second, end_third, address_slot, index_slot, length_slot}

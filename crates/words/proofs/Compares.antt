@@ -1,12 +1,6 @@
 -- The order of two words, limb by limb: where all before agree, the first limbs that differ decide.
-use Prim.Native.Nat.{ℕ, ◌+◌, ◌*◌, ◌%◌, ◌≤◌, ◌<◌}
-use native.Mathlib.Omega.{arith}
-use mathlib.Core.Path.{◌≡◌, refl, sym, ap, ◌∙◌}
-use mathlib.Core.Bool.{Bool, true, false, not}
-use lib.Dec.{leb, ltb}
-use lib.ListN.{take}
-use lib.Seq.{take_all}
-use borrow.Author.Tests.{lt-ltb, le-ltb, le-leb, lt-leb, ltb-true, ltb-false}
+use Rattle.std.proofs.Common.{ℕ, ◌+◌, ◌*◌, ◌≤◌, ◌<◌, ◌≡◌, refl, arith, ltb, take}
+use borrow.Author.Tests.{lt-ltb, le-ltb}
 use Rattle.rules.specs.Words.{Bytes, num}
 use Rattle.laws.proofs.Numbers.{Order, less, equal, more, order}
 use Rattle.laws.proofs.Numerals.{num-front-less}
@@ -18,35 +12,26 @@ pub record Agree (a b : Bytes) (at : ℕ) : Type 0 where
   pub word_a : Word a
   pub word_b : Word b
   pub within : at ≤ 32
-  pub whole : at % 8 ≡ 0
   pub so_far : num (take at a) ≡ num (take at b)
 
 pub agree-none : {a b : Bytes} → Word a → Word b → Agree a b 0
-agree-none va vb = record { word_a = va; word_b = vb; within = omega arith; whole = refl; so_far = refl }
-
-pub agree-all : {a b : Bytes} {at : ℕ} → Agree a b at → 32 ≤ at → false ≡ ltb (num a) (num b)
-agree-all {a} {b} {at} s h =
-    let ea : take at a ≡ a = take_all at a (omega arith) in
-    let eb : take at b ≡ b = take_all at b (omega arith) in
-    let e : num a ≡ num b = ap num (sym ea) ∙ s.so_far ∙ ap num eb in
-    sym (le-ltb (num a) (num b) (omega arith))
+agree-none va vb = record { word_a = va; word_b = vb; within = omega arith; so_far = refl }
 
 -- the limbs there, x of the one and y of the other
-module _ {a b : Bytes} {at : ℕ} (s : Agree a b at) (h : at < 32) {x y : ℕ} (p : LongLimb a at x) (q : LongLimb b at y) where
+module _ {a b : Bytes} {at : ℕ} (s : Agree a b at) (h : at + 8 ≤ 32) {x y : ℕ} (p : LongLimb a at x) (q : LongLimb b at y) where
   next_a : num (take (at + 8) a) ≡ num (take at a) * long_limb_base + x
   next_a = long-limb-more (omega arith) p
 
   next_b : num (take (at + 8) b) ≡ num (take at b) * long_limb_base + y
   next_b = long-limb-more (omega arith) q
 
-  pub agree-more : x ≡ y → Agree a b (at + 8)
-  agree-more e =
+  pub agree-more : {next : ℕ} → next ≡ at + 8 → x ≡ y → Agree a b next
+  agree-more n e =
       record {
         word_a = s.word_a;
         word_b = s.word_b;
         within = omega arith;
-        whole = omega arith;
-        so_far = omega (arith, next_a, next_b);
+        so_far = rw n (omega (arith, next_a, next_b));
       }
 
   pub first-differs : (x ≡ y → ⊥) → ltb x y ≡ ltb (num a) (num b)
@@ -60,11 +45,3 @@ module _ {a b : Bytes} {at : ℕ} (s : Agree a b at) (h : at < 32) {x y : ℕ} (
       go (more l) =
           let whole : num b < num a = num-front-less b a (at + 8) (omega arith) s.word_b.bytes (omega (arith, next_a, next_b)) in
           rw (le-ltb x y (omega arith), le-ltb (num a) (num b) (omega arith))
-
--- a number is at most another where that one is not below it
-pub not-below : (a b : ℕ) → not (ltb b a) ≡ leb a b
-not-below a b = go (ltb b a) refl
-  where
-    go : (t : Bool) → ltb b a ≡ t → not t ≡ leb a b
-    go true e = sym (lt-leb a b (ltb-true b a e))
-    go false e = sym (le-leb a b (ltb-false b a e))

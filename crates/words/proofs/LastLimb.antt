@@ -1,11 +1,5 @@
 -- The number of a word by its last limb and the others: where these are zero, it is the limb.
-use Prim.Native.Nat.{ℕ, ◌+◌, ◌*◌, min}
-use native.Mathlib.Omega.{arith}
-use mathlib.Core.Path.{◌≡◌, sym, ap, ◌∙◌}
-use mathlib.Core.Bool.{true, false}
-use lib.Dec.{eqb}
-use lib.ListN.{take}
-use lib.Seq.{take_all}
+use Rattle.std.proofs.Common.{ℕ, ◌+◌, ◌*◌, min, ◌≡◌, sym, ap, ◌∙◌, arith, true, false, eqb, take, take_all}
 use borrow.Author.Tests.{eqb-true, eqb-false}
 use Rattle.rules.specs.Words.{Bytes, num}
 use Rattle.laws.proofs.Numerals.{num-more}

@@ -1,6 +1,5 @@
 -- `Holds` leaves no byte open: two lists of n bytes that stand for one number are the same.
-use mathlib.Core.Path.{◌≡◌, sym, ◌∙◌}
-use Prim.Native.Nat.{ℕ}
+use Rattle.std.proofs.Common.{ℕ, ◌≡◌, sym, ◌∙◌}
 use Rattle.rules.specs.Words.{Bytes, AllBytes}
 use Rattle.laws.proofs.Numerals.{num-injective}
 use Rattle.words.specs.Words.{Holds}

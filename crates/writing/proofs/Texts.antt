@@ -1,24 +1,10 @@
 -- Texts in a buffer: a character is one, nothing is one, and two that follow each other are one.
-use Prim.Native.Nat.{ℕ, ◌+◌, ◌*◌, ◌/◌, ◌%◌, ◌≤◌, ◌<◌}
-use native.Mathlib.Nat.{add-zero}
-use native.Mathlib.Numerals.{add-one}
-use native.Mathlib.Omega.{arith}
-use mathlib.Core.Path.{◌≡◌, refl, sym, ap, ◌∙◌}
-use mathlib.Core.List.{[], ◌∷◌, ◌++◌, append_assoc, append-nil}
-use lib.ListN.{length, take, drop, get_or, set, length-append, length-set}
-use lib.Seq.{take-suc, take-suc-set, drop-set-lt, drop-drop, take_all}
+use Rattle.std.proofs.Common.{◌≡◌, ℕ, ◌+◌, ◌*◌, ◌/◌, ◌%◌, ◌≤◌, ◌<◌, [], ◌∷◌, ◌++◌, length, take, drop, get_or, refl, sym, ap, ◌∙◌, add-one, append_assoc, append-nil, length-append, arith}
+use Rattle.std.proofs.Math.Nat.{add-zero}
+use Rattle.std.proofs.Math.Seq.{take-suc, drop-drop}
 use Rattle.rules.specs.Words.{Bytes}
 use Rattle.rules.specs.Program.{hex_digit, hex}
 use Rattle.writing.specs.Wrote.{Wrote}
-
-pub wrote_one : (before : Bytes) (at character : ℕ) → at < length before → Wrote before at (character ∷ []) (at + 1) (set before at character)
-wrote_one before at c h =
-    record {
-      ends = refl;
-      within = simp length-set (omega arith);
-      front = rw (add-one at) (take-suc-set before at c h);
-      rest = drop-set-lt (at + 1) before at c (omega arith);
-    }
 
 pub wrote_none : (before : Bytes) (at : ℕ) → at ≤ length before → Wrote before at [] at before
 wrote_none before at h = record { ends = sym (add-zero at); within = h; front = sym (append-nil (take at before)); rest = refl }
@@ -74,7 +60,3 @@ hexed-more {before} {bytes} {after} {after'} {at} {end} {end'} {i} x h l w =
       place = omega (arith, w.ends, x.place);
       wrote = rw (add-one i, take-suc bytes i 0 h, hex-append) (wrote-both x.wrote w);
     }
-
-pub hexed-all : {before bytes after : Bytes} {at end i : ℕ} → Hexed before at bytes end after i → length bytes ≤ i
-    → Wrote before at (hex bytes) end after
-hexed-all {before} {bytes} {after} {at} {end} {i} x h = rw (take_all i bytes h) at x.wrote

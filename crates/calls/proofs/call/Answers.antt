@@ -19,13 +19,13 @@ pub returns-then-not-permits : goal.returns-then-not-permits
 unfolding code_number number
 returns-then-not-permits c =
     call-not-covered c.args.t.now c.args.d.now c.key_word.ensures c.permits.ensures
-    c.if-not-permits.true c.refused.ensures
+    c.if-not-permits.true
 
 pub returns-then-not-is_listed : goal.returns-then-not-is_listed
 unfolding code_number number
 returns-then-not-is_listed c =
     call-not-listed c.args.t.now c.args.d.now c.key_word.ensures c.permits.ensures
-    c.if-not-permits.false c.key_of-callee.ensures c.is_listed.ensures c.if-not-is_listed.true c.refused-then-not-is_listed.ensures
+    c.if-not-permits.false c.key_of-callee.ensures c.is_listed.ensures c.if-not-is_listed.true
 
 pub value_at-requires : goal.value_at-requires
 value_at-requires c = search (rules, occupied) depth 6
@@ -41,4 +41,4 @@ unfolding number
 returns c =
     call-done c.args.t.now c.args.d.now c.key_word.ensures c.permits.ensures
     c.if-not-permits.false c.key_of-callee.ensures c.is_listed.ensures c.if-not-is_listed.false
-    c.value_at.result (address_word c.requires.sound_with c.key_of-callee.result.now c.address_slot-slot.ensures c.value_at.ensures) c.address_part.ensures c.called.ensures
+    c.value_at.result (address_word c.requires.sound_with c.key_of-callee.result.now c.address_slot-slot.ensures c.value_at.ensures) c.address_part.ensures

@@ -12,13 +12,12 @@ pub returns-then-not-index_in_range : goal.returns-then-not-index_in_range
 unfolding code_number number
 returns-then-not-index_in_range c =
     set-entry-not-covered c.args.t.now c.args.d.now c.index_in_range.ensures c.if-not-index_in_range.true
-    c.refused.ensures
 
 pub returns-then-not-is_listed : goal.returns-then-not-is_listed
 unfolding code_number number
 returns-then-not-is_listed c =
     set-entry-not-listed c.args.t.now c.args.d.now c.index_in_range.ensures c.if-not-index_in_range.false
-    c.key_of.ensures c.is_listed.ensures c.if-not-is_listed.true c.refused-then-not-is_listed.ensures
+    c.key_of.ensures c.is_listed.ensures c.if-not-is_listed.true
 
 pub put-requires : goal.put-requires
 put-requires c =
@@ -32,4 +31,3 @@ returns c =
     set-entry-done c.args.t.now c.args.d.now c.index_in_range.ensures c.if-not-index_in_range.false
     c.key_of.ensures c.is_listed.ensures c.if-not-is_listed.false
     (put-after (as_lent c.requires.sound_with) c.entry_slot-slot.ensures c.key_word.ensures c.put.ensures).table
-    c.done.ensures

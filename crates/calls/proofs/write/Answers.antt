@@ -20,13 +20,13 @@ pub returns-then-not-permits : goal.returns-then-not-permits
 unfolding code_number number
 returns-then-not-permits c =
     write-not-covered c.args.t.now c.args.d.now c.write_address-address.ensures c.write_value-value.ensures
-    c.permits.ensures c.if-not-permits.true c.refused.ensures
+    c.permits.ensures c.if-not-permits.true
 
 pub returns-then-in_kernel_storage : goal.returns-then-in_kernel_storage
 unfolding code_number number
 returns-then-in_kernel_storage c =
     write-into-kernel c.args.t.now c.args.d.now c.write_address-address.ensures c.write_value-value.ensures
-    c.permits.ensures c.if-not-permits.false c.in_kernel_storage.ensures c.if-in_kernel_storage.true c.refused-then-in_kernel_storage.ensures
+    c.permits.ensures c.if-not-permits.false c.in_kernel_storage.ensures c.if-in_kernel_storage.true
 
 pub needed-requires : goal.needed-requires
 needed-requires c =
@@ -38,7 +38,7 @@ unfolding code_number number
 returns-then-t-needed c =
     write-no-room c.args.t.now c.args.d.now c.write_address-address.ensures c.write_value-value.ensures
     c.permits.ensures c.if-not-permits.false c.in_kernel_storage.ensures c.if-in_kernel_storage.false
-    c.needed.ensures (search rules) c.refused-then-t-needed.ensures
+    c.needed.ensures (search rules)
 
 pub put-requires : goal.put-requires
 put-requires c =
@@ -54,4 +54,3 @@ returns c =
     c.permits.ensures c.if-not-permits.false c.in_kernel_storage.ensures c.if-in_kernel_storage.false
     c.needed.ensures (search rules)
     (put-after (as_lent c.requires.sound_with) c.write_address-address.ensures c.write_value-value.ensures c.put.ensures).table
-    c.done.ensures

@@ -1,11 +1,6 @@
--- The loop's invariant is `StoringKind`: of the requests from an offset on those of the type are left to store.
-use Prim.Native.Nat.{◌-◌}
-use lib.ListN.{length}
+-- The loop's invariant is `StoringKind`: of the requests that are left those of the type are left to store.
 use Rattle.capability_records.proofs.Requested.{StoringKind}
 use Rattle.capability_records.proofs.put_kind.Given as goal
 
-abbrev pub invariant-loop-i : goal.invariant-loop-i
-invariant-loop-i l = StoringKind l.initial.t l.procedure l.kind.0 l.count l.d l.t l.stored l.i l.at
-
-abbrev pub decreases-loop-i : goal.decreases-loop-i
-decreases-loop-i l = length l.d - l.at
+abbrev pub invariant-loop-request : goal.invariant-loop-request
+invariant-loop-request l = StoringKind l.initial.t l.procedure l.kind.0 l.count l.d l.t l.stored l.i l.request-iterator

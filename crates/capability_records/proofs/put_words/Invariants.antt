@@ -1,10 +1,6 @@
 -- The loop's invariant is `StoringWords`: the words from word k on are left to store.
-use Prim.Native.Nat.{◌-◌}
 use Rattle.capability_records.proofs.CapabilityWords.{StoringWords}
 use Rattle.capability_records.proofs.put_words.Given as goal
 
 abbrev pub invariant-loop-k : goal.invariant-loop-k
-invariant-loop-k l = StoringWords l.initial.t l.procedure l.kind.0 l.i l.d l.at l.count l.t l.stored l.k
-
-abbrev pub decreases-loop-k : goal.decreases-loop-k
-decreases-loop-k l = l.count - l.k
+invariant-loop-k l = StoringWords l.initial.t l.procedure l.kind.0 l.i l.capability l.k-end l.t l.stored l.k

@@ -1,11 +1,6 @@
--- The loop's invariant is `CountingRequests`: the requests from an offset on are left to count.
-use Prim.Native.Nat.{◌-◌}
-use lib.ListN.{length}
+-- The loop's invariant is `CountingRequests`: the requests that are left are yet to count.
 use Rattle.counting.proofs.Counting.{CountingRequests}
 use Rattle.counting.proofs.requests_taken.Given as goal
 
-abbrev pub invariant-loop-at : goal.invariant-loop-at
-invariant-loop-at l = CountingRequests l.d l.at l.total
-
-abbrev pub decreases-loop-at : goal.decreases-loop-at
-decreases-loop-at l = length l.d - l.at
+abbrev pub invariant-loop-request : goal.invariant-loop-request
+invariant-loop-request l = CountingRequests l.d l.request-iterator l.total

@@ -1,10 +1,8 @@
--- The loop's invariant is `CountingWords`: the words from word k on are left to count.
-use Prim.Native.Nat.{◌-◌}
+-- The loop's invariant is `CountingWords`: the words that are left are yet to count.
+use Rattle.std.specs.Slice.Iter.{chunks_exact_rest, chunks_exact_size}
 use Rattle.counting.proofs.Counting.{CountingWords}
 use Rattle.counting.proofs.words_taken.Given as goal
 
-abbrev pub invariant-loop-k : goal.invariant-loop-k
-invariant-loop-k l = CountingWords l.d l.at l.count l.total l.k
-
-abbrev pub decreases-loop-k : goal.decreases-loop-k
-decreases-loop-k l = l.count - l.k
+abbrev pub invariant-loop-word : goal.invariant-loop-word
+invariant-loop-word l =
+    CountingWords l.capability (chunks_exact_size l.word-iterator) l.total (chunks_exact_rest l.word-iterator)

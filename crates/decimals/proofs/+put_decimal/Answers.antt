@@ -5,25 +5,22 @@ use Rattle.decimals.proofs.Decimals.{decimal-one, decimal-more, decimal-longer}
 use Rattle.decimals.proofs.+put_decimal.Goals as goal
 
 pub put-requires : goal.put-requires
-put-requires t c =
-    let one = ap length (decimal-one c.args.n c.if-n-lt10.true) in
-    omega (arith, c.requires)
+put-requires t c = let one = ap length (decimal-one c.args.n c.if-n-lt10.true) in omega arith
 
 pub returns-then-n-lt10 : goal.returns-then-n-lt10
-returns-then-n-lt10 t c = rw (decimal-one c.args.n c.if-n-lt10.true, ← c.last_digit-last.ensures) c.put.ensures
+returns-then-n-lt10 t c = rw (decimal-one c.args.n c.if-n-lt10.true) c.put.ensures
 
 pub put_decimal-end-requires : goal.put_decimal-end-requires
 put_decimal-end-requires t c =
-    let longer = decimal-longer c.args.n (search rules) in
-    (omega (arith, c.decreases), omega (arith, c.requires))
+    let longer = decimal-longer c.args.n (search rules) (search rules) in
+    (omega arith, omega arith)
 
 pub put-requires-2 : goal.put-requires-2
 put-requires-2 t c =
-    let longer = decimal-longer c.args.n (search rules) in
+    let longer = decimal-longer c.args.n (search rules) (search rules) in
     let end = c.put_decimal-end.ensures.ends in
-    omega (arith, c.requires)
+    omega arith
 
 pub returns : goal.returns
 returns t c =
-    rw (decimal-more c.args.n (search rules), ← c.last_digit-last.ensures)
-    (wrote-both c.put_decimal-end.ensures c.put-2.ensures)
+    rw (decimal-more c.args.n (search rules) (search rules)) (wrote-both c.put_decimal-end.ensures c.put-2.ensures)

@@ -16,20 +16,20 @@ pub returns-then-not-permits : goal.returns-then-not-permits
 unfolding code_number number
 returns-then-not-permits c =
     delete-not-covered c.args.t.now c.args.d.now c.key_word.ensures c.permits.ensures
-    c.if-not-permits.true c.refused.ensures
+    c.if-not-permits.true
 
 pub returns-then-names_entry : goal.returns-then-names_entry
 unfolding code_number number
 returns-then-names_entry c =
     delete-entry c.args.t.now c.args.d.now c.key_word.ensures c.permits.ensures
-    c.if-not-permits.false c.names_entry.ensures c.if-names_entry.true c.refused-then-names_entry.ensures
+    c.if-not-permits.false c.names_entry.ensures c.if-names_entry.true
 
 pub returns-then-not-is_listed : goal.returns-then-not-is_listed
 unfolding code_number number
 returns-then-not-is_listed c =
     delete-not-listed c.args.t.now c.args.d.now c.key_word.ensures c.permits.ensures
     c.if-not-permits.false c.names_entry.ensures c.if-names_entry.false
-    c.key_of-procedure.ensures c.is_listed.ensures c.if-not-is_listed.true c.refused-then-not-is_listed.ensures
+    c.key_of-procedure.ensures c.is_listed.ensures c.if-not-is_listed.true
 
 pub returns-then-names_current : goal.returns-then-names_current
 unfolding code_number number
@@ -37,7 +37,7 @@ returns-then-names_current c =
     delete-current c.args.t.now c.args.d.now c.key_word.ensures c.permits.ensures
     c.if-not-permits.false c.names_entry.ensures c.if-names_entry.false
     c.key_of-procedure.ensures c.is_listed.ensures c.if-not-is_listed.false
-    c.names_current.ensures c.if-names_current.true c.refused-then-names_current.ensures
+    c.names_current.ensures c.if-names_current.true
 
 pub unlist-requires : goal.unlist-requires
 unlist-requires c =
@@ -53,4 +53,4 @@ returns c =
     delete-done c.args.t.now c.args.d.now c.key_word.ensures c.permits.ensures
     c.if-not-permits.false c.names_entry.ensures c.if-names_entry.false
     c.key_of-procedure.ensures c.is_listed.ensures c.if-not-is_listed.false
-    c.names_current.ensures c.if-names_current.false c.unlist.ensures c.done.ensures
+    c.names_current.ensures c.if-names_current.false c.unlist.ensures

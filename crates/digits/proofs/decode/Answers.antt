@@ -1,22 +1,12 @@
--- Each return is a line that `Messages` tells apart.
--- The returns in order: too long; odd; digits alone; with another character.
-use mathlib.Core.Path.{sym, ◌∙◌}
-use borrow.Author.Rules.{rules}
-use Rattle.digits.proofs.Messages.{too_long, odd, all_digits, some-other}
+-- A line that is no message is too long or odd.
+use Rattle.std.proofs.Common.{rules}
+use Rattle.digits.proofs.Messages.{too_long, odd}
 use Rattle.digits.proofs.decode.Goals as goal
+use Rattle.digits.proofs.decode.Goals.{then-line-gt-GREATEST_LINE-via-then-line-gt-GREATEST_LINE as is_long, then-line-gt-GREATEST_LINE-via-else-line-gt-GREATEST_LINE+then-line-ne0 as is_odd}
 
 pub returns-then-line-gt-GREATEST_LINE : goal.returns-then-line-gt-GREATEST_LINE
-returns-then-line-gt-GREATEST_LINE c = too_long _ _ (search rules)
-
-pub returns-then-line-ne0 : goal.returns-then-line-ne0
-returns-then-line-ne0 c = odd _ _ (search rules) c.if-line-ne0.true
-
-pub returns-then-decode_pairs-eq0 : goal.returns-then-decode_pairs-eq0
-returns-then-decode_pairs-eq0 c =
-    let e = c.decode_pairs.ensures in
-    all_digits _ _ (search rules) (search rules) _ (sym e.value ∙ c.if-decode_pairs-eq0.true) e.to_after
-
-pub returns-else-decode_pairs-eq0 : goal.returns-else-decode_pairs-eq0
-returns-else-decode_pairs-eq0 c =
-    let e = c.decode_pairs.ensures in
-    some-other _ _ (search rules) (search rules) _ (λ z. c.if-decode_pairs-eq0.false (e.value ∙ z)) e.to_after
+returns-then-line-gt-GREATEST_LINE c =
+    elim c.then-line-gt-GREATEST_LINE.branch [
+      | is_long w ↦ too_long _ _ (search rules)
+      | is_odd w ↦ odd _ _ (search rules) w.if-line-ne0.true
+    ]

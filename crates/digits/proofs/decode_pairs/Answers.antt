@@ -1,12 +1,8 @@
--- The invariant is `Decoded`: the first i pairs are in their place, and their characters that are no digits are counted.
-use borrow.Author.Rules.{rules}
-use Rattle.digits.proofs.Turns.{decoded-none, decoded-more, decoded-all}
-use mathlib.Core.Path.{◌≡◌, ap₂, ◌∙◌}
+-- A pair more, and the end.
+use Rattle.std.proofs.Common.{◌≡◌, ap₂, ◌∙◌, rules}
 use Rattle.digits.specs.Decoding.{byte_of, others_of}
+use Rattle.digits.proofs.Turns.{decoded-more, decoded-all}
 use Rattle.digits.proofs.decode_pairs.Goals as goal
-
-pub loop-i-init : goal.loop-i-init
-loop-i-init c = decoded-none _ _ _ c.requires.line_len.0 c.requires.line_len.1 c.requires.n_in_bounds
 
 pub loop-i-preserved : goal.loop-i-preserved
 loop-i-preserved c =

@@ -1,10 +1,6 @@
 -- The invariant is `Decoded`: the first i pairs are in their place, and their characters that are no digits are counted.
 use Rattle.digits.proofs.Turns.{Decoded}
-use Prim.Native.Nat.{◌-◌}
 use Rattle.digits.proofs.decode_pairs.Given as goal
 
 abbrev pub invariant-loop-i : goal.invariant-loop-i
-invariant-loop-i l = Decoded l.line l.initial.to l.n l.to l.wrong l.i
-
-abbrev pub decreases-loop-i : goal.decreases-loop-i
-decreases-loop-i l = l.n - l.i
+invariant-loop-i l = Decoded l.line l.to l.wrong l.i

@@ -1,19 +1,24 @@
--- The invariant is `Left`: what is left is zero exactly where all bytes are. Each block at its end is zero and cut off, or decides.
-use mathlib.Core.Path.{sym, ◌∙◌}
-use borrow.Author.Rules.{rules}
-use Rattle.equality.proofs.ByLimbs.{left-all, left-blank, left-not-blank, left-rest}
+-- Where the bytes behind the blocks are zero, the blocks decide.
+use Rattle.std.proofs.Common.{rules, arith, sym, ◌≡◌, ◌∙◌, true, false, eqb, replicate, length, ap, ◌*◌, ◌/◌}
+use borrow.Author.Tests.{tests, eqb-true, eqb-false}
+use Rattle.std.specs.Cmp.Lexicographic.{pointwise}
+use Rattle.std.proofs.lemmas.Iterator.{cases_from_all, YieldsList-from_slice}
+use Rattle.rules.specs.Words.{num}
+use Rattle.laws.proofs.Numerals.{all-bytes}
+use Rattle.equality.proofs.Bytes.{blocks, blocks-decide}
+use Rattle.equality.proofs.ByLimbs.{rest-not-zero}
 use Rattle.equality.proofs.is_blank.Goals as goal
 
-pub loop-end-init : goal.loop-end-init
-loop-end-init c = left-all _
+pub returns-then-is_zero : goal.returns-then-is_zero
+returns-then-is_zero c =
+    let bs = c.args.bytes.now in
+    blocks-decide bs c.all.result (all-bytes bs (λ k. search rules))
+    (cases_from_all _ _ _ (λ b. pointwise eqb b (replicate 64 0) ≡ true) (λ b. pointwise eqb b (replicate 64 0) ≡ false) c.all.ensures.ran
+    (YieldsList-from_slice (blocks bs) cc) (λ x q k. search (rules, tests)) (λ x q k. search (rules, tests)))
+    (ap num (sym c.as_chunks.ensures.back) ∙ eqb-true _ 0 (sym c.is_zero.ensures ∙ c.if-is_zero.true))
 
-pub loop-end-preserved : goal.loop-end-preserved
-loop-end-preserved c =
-    left-blank c.loop-end.invariant (search rules) (sym c.zero_block.ensures ∙ c.if-zero_block.true)
-
-pub returns-else-zero_block : goal.returns-else-zero_block
-returns-else-zero_block c =
-    left-not-blank c.loop-end.invariant (search rules) (sym c.zero_block.ensures ∙ c.if-zero_block.false)
-
-pub returns : goal.returns
-returns c = c.is_zero.ensures ∙ left-rest c.loop-end.invariant
+pub returns-else-is_zero : goal.returns-else-is_zero
+returns-else-is_zero c =
+    let bs = c.args.bytes.now in
+    c.if-is_zero.false ∙ rest-not-zero bs (length bs / 64 * 64) (omega arith)
+    (λ z. eqb-false _ 0 (sym c.is_zero.ensures ∙ c.if-is_zero.false) (ap num c.as_chunks.ensures.back ∙ z))

@@ -1,10 +1,7 @@
--- The invariant is `Agree`: the first bytes, up to the offset, are the same. Limbs that differ decide, and at the end the last ones.
-use Prim.Native.Nat.{◌-◌}
+-- The invariant is `Agree`: the limbs before this one are the same.
+use Rattle.std.proofs.Common.{◌*◌}
 use Rattle.equality.proofs.ByLimbs.{Agree}
 use Rattle.equality.proofs.same.Given as goal
 
-abbrev pub invariant-loop-at : goal.invariant-loop-at
-invariant-loop-at l = Agree l.a l.b l.last l.at
-
-abbrev pub decreases-loop-at : goal.decreases-loop-at
-decreases-loop-at l = l.last - l.at
+abbrev pub invariant-loop-i : goal.invariant-loop-i
+invariant-loop-i l = Agree l.a l.b l.last (8 * l.i)

@@ -1,19 +1,20 @@
 -- The invariant is `Feeding`: what has been answered so far is where `answering` stands.
+use Rattle.std.proofs.Common.{sym, ◌∙◌, arith, rules}
+use Rattle.feeding.proofs.Ends.{index-some, index-none}
 use Rattle.feeding.proofs.Rounds.{feeding-none, feeding-more, feeding-full, feeding-kept}
-use borrow.Author.Rules.{rules}
-use Prim.Native.Nat.{◌-◌}
 use Rattle.feeding.proofs.feed.Goals as goal
 
 pub loop-out-init : goal.loop-out-init
 loop-out-init c = feeding-none _ _ _ _
 
-pub returns-then-end-n : goal.returns-then-end-n
-returns-then-end-n c =
-    feeding-kept c.loop-out.invariant _ (search rules) c.line_end-end.ensures.place c.if-end-n.true _ c.keep.ensures
+pub returns-in_default : goal.returns-in_default
+returns-in_default c =
+    feeding-kept c.loop-out.invariant (search rules) (index-none c.args.piece.now c.loop-out.at (sym c.line_length.ensures ∙ c.in_default.is)) _ c.keep.ensures
 
 pub loop-out-preserved : goal.loop-out-preserved
 loop-out-preserved c =
-    feeding-more c.loop-out.invariant _ (search rules) c.line_end-end.ensures.place (search rules) (search rules) (search rules)
+    let end = index-some c.args.piece.now c.loop-out.at c.in-Some.length (sym c.line_length.ensures ∙ c.in-Some.is) in
+    feeding-more c.loop-out.invariant _ (search rules) (omega arith) (omega arith) (search rules) (search rules)
     c.answer_rest-used.ensures
 
 pub returns : goal.returns

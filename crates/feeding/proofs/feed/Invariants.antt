@@ -1,7 +1,6 @@
 -- The invariant is `Feeding`: what has been answered so far is where `answering` stands.
 use Rattle.feeding.proofs.Rounds.{Feeding}
-use Prim.Native.Nat.{◌-◌}
-use lib.ListN.{length}
+use Rattle.std.proofs.Common.{◌-◌, length}
 use Rattle.feeding.proofs.feed.Given as goal
 
 abbrev pub invariant-loop-out : goal.invariant-loop-out

@@ -1,22 +1,19 @@
--- Each return is a last line: one that is too long already, an empty one, any other.
-use Rattle.answering.specs.Answering.{answer_of}
+-- The last line is empty, or is answered as every other.
+use Rattle.std.proofs.Common.{◌≡◌, false, length, refl, arith, rules}
 use Rattle.writing.proofs.Texts.{wrote_none}
-use Rattle.feeding.specs.Feeding.{finished}
-use Rattle.feeding.proofs.Prints.{finished-empty, finished-line}
-use mathlib.Core.Path.{refl}
-use borrow.Author.Rules.{rules}
+use Rattle.feeding.proofs.Prints.{finished-empty, finished-left}
 use Rattle.feeding.proofs.finish.Goals as goal
+use Rattle.feeding.proofs.finish.Goals.{else-not-long-via-then-not-long+else-is_empty as not_empty, else-not-long-via-else-not-long as is_long}
 
-pub returns-then-long : goal.returns-then-long
-unfolding finished answer_of
-returns-then-long c =
-    rw c.if-long.true (record { wrote = c.print_other.ensures; changed = refl })
-
-pub returns-then-line-eq0 : goal.returns-then-line-eq0
-returns-then-line-eq0 c =
-    rw (c.if-long.false, finished-empty c.args.t.now c.args.line.now c.if-line-eq0.true)
+pub returns-then-is_empty : goal.returns-then-is_empty
+returns-then-is_empty c =
+    let whole : c.args.long ≡ false = grind arith in
+    let empty : length c.args.line.now ≡ 0 = grind arith in
+    rw (whole, finished-empty c.args.t.now c.args.line.now empty)
     (record { wrote = wrote_none _ _ (search rules); changed = refl })
 
 pub returns : goal.returns
 returns c =
-    rw (c.if-long.false, finished-line c.args.t.now c.args.line.now c.if-line-eq0.false) c.answer_line.ensures
+    let more : c.args.long ≡ false → length c.args.line.now ≡ 0 → ⊥ =
+    λ e f. elim c.else-not-long.branch [ not_empty w ↦ grind arith | is_long w ↦ grind arith ] in
+    rw (finished-left c.args.t.now c.args.line.now c.args.long more) c.answer_rest.ensures

@@ -1,15 +1,14 @@
--- With no leading bytes the last 24 bytes of the key word are its whole number.
-use mathlib.Core.Path.{refl}
-use native.Mathlib.Omega.{arith}
-use lib.ListN.{length-take, length-drop}
-use Rattle.rules.specs.Messages.{key_too_long, key_word}
-use Rattle.laws.proofs.WordParts.{no-leads}
+-- With no leading bytes the key's number is the whole word's.
+use Rattle.std.proofs.Common.{◌∙◌}
+use borrow.Author.Tests.{leb-false}
+use Rattle.rules.specs.Messages.{key_too_long}
+use Rattle.key_words.proofs.KeyWords.{key-number}
 use Rattle.fields.proofs.key_of.Goals as goal
 
 pub returns : goal.returns
-unfolding key_too_long key_word
+unfolding key_too_long
 returns c =
     record {
-      size = simp (length-take, length-drop) (omega arith);
-      number = no-leads c.args.d.now 32 8 24 refl (omega arith) c.requires.1;
+      size = c.key_part.ensures.size;
+      number = key-number c.key_part.ensures (rw c.key_word.ensures.number (leb-false _ _ c.requires.1)) ∙ c.key_word.ensures.number;
     }

@@ -16,6 +16,6 @@ returns c =
     let at = c.args.at in
     let n = c.args.n in
     let size : at + n - at ≡ n = omega arith in
-    let bytes = all-bytes d (λ i. (c.shared_slice_known-1.given i).fits) in
+    let bytes = all-bytes d (λ i. (c.type_inv.d i).fits) in
     ap not (c.is_zero.ensures ∙ ap (λ (k : ℕ). eqb (num (take k (drop at d))) 0) size)
     ∙ sym (leads d at n (32 - n) (omega arith) bytes (omega arith))

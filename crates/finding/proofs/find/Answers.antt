@@ -1,7 +1,6 @@
 -- At the place that `keys_below` found, the record has the key or the key is absent.
-use mathlib.Core.Path.{sym, ◌∙◌}
+use Rattle.std.proofs.Common.{sym, ◌∙◌, rules}
 use Rattle.finding.proofs.Finding.{find-has, find-gap}
-use borrow.Author.Rules.{rules}
 use Rattle.finding.proofs.find.Goals as goal
 
 pub returns-then-has_key : goal.returns-then-has_key

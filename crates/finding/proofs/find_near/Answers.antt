@@ -1,7 +1,6 @@
 -- A guess whose record has the key, or that is the place of a key with no record, is answered at once; any other is left to `find`.
-use mathlib.Core.Path.{sym, ◌∙◌}
+use Rattle.std.proofs.Common.{sym, ◌∙◌, rules}
 use Rattle.finding.proofs.Near.{near-has, near-gap}
-use borrow.Author.Rules.{rules}
 use Rattle.finding.proofs.find_near.Goals as goal
 
 pub returns-then-has_key : goal.returns-then-has_key

@@ -1,22 +1,31 @@
 -- The place is i where it does not lie before i, but before i + 1 or at the end.
-use mathlib.Core.Path.{sym, ◌∙◌}
-use Rattle.finding.proofs.Near.{place-not-past, place-not-before, place-at-end, place-by-next}
-use borrow.Author.Rules.{rules}
+use Rattle.std.proofs.Common.{◌≡◌, false, ltb, eq-eqb, true≢false, sym, ◌∙◌, rules}
+use borrow.Author.Tests.{lt-leb}
+use Rattle.std.proofs.lemmas.Bool.{not-true, not-false}
+use Rattle.rules.specs.Words.{num}
+use Rattle.rules.specs.Table.{store}
+use Rattle.finding.specs.Finding.{keys_below}
+use Rattle.finding.proofs.Near.{place-not-past, place-not-before, place-at-end}
 use Rattle.finding.proofs.is_place.Goals as goal
+use Rattle.finding.proofs.is_place.Goals.{Then-not-stands_before, then-i-used, else-i-used}
 
-pub returns-then-used-i : goal.returns-then-used-i
-returns-then-used-i c =
-    place-not-past c.args.t.now _ c.args.i (search rules)
+not_before : (c : Then-not-stands_before) → ltb (keys_below (store c.args.t.now) (num c.args.key.now)) c.args.i ≡ false
+not_before c =
+    elim c.if-i-used.branch [
+      | then-i-used w ↦ sym w.stands_before.ensures ∙ not-true _ (sym w.value-is ∙ c.if-not-stands_before.true)
+      | else-i-used w ↦ absurd (true≢false (sym c.if-not-stands_before.true ∙ w.value-is ∙ lt-leb _ _ w.if-i-used.false))
+    ]
 
-pub returns-then-stands_before : goal.returns-then-stands_before
-returns-then-stands_before c =
-    place-not-before c.args.t.now _ c.args.i (sym c.stands_before.ensures ∙ c.if-stands_before.true)
+pub returns-else-not-stands_before : goal.returns-else-not-stands_before
+returns-else-not-stands_before c =
+    c.if-not-stands_before.false
+    ∙ elim c.if-i-used.branch [
+      | then-i-used w ↦
+          place-not-before c.args.t.now _ c.args.i (sym w.stands_before.ensures ∙ not-false _ (sym w.value-is ∙ c.if-not-stands_before.false))
+      | else-i-used w ↦ place-not-past c.args.t.now _ c.args.i (search rules)
+    ]
 
-pub returns-then-i-used : goal.returns-then-i-used
-returns-then-i-used c =
-    place-at-end c.args.t.now _ c.args.i (sym c.stands_before.ensures ∙ c.if-stands_before.false) (search rules)
-
-pub returns : goal.returns
-returns c =
-    c.stands_before-2.ensures
-    ∙ place-by-next c.args.t.now _ c.args.i (sym c.stands_before.ensures ∙ c.if-stands_before.false)
+pub returns-then-i-used-2 : goal.returns-then-i-used-2
+returns-then-i-used-2 c =
+    eq-eqb _ _ c.if-i-used-2.true
+    ∙ place-at-end c.args.t.now _ c.args.i (not_before (goal.at.returns-then-i-used-2 c).Then-not-stands_before) (search rules)

@@ -1,17 +1,14 @@
--- The three parts that are lent one after the other leave what `inserted` says.
-use Prim.Native.Nat.{◌*◌}
-use native.Mathlib.Omega.{arith}
+-- The records that move down, and the key and the value put before them, leave what `inserted` says.
+use Rattle.std.proofs.Common.{◌*◌, arith, rules}
 use Rattle.gaps.specs.Gaps.{inserted}
-use Rattle.gaps.proofs.Moves.{insert-leaves}
-use borrow.Author.Rules.{rules}
+use Rattle.gaps.proofs.Opens.{insert-leaves}
 use Rattle.gaps.proofs.insert.Goals as goal
 
 pub returns : goal.returns
 unfolding inserted
 returns c =
     let a = c.args in
-    let shift = c.shift_right in
     let first = c.copy_word in
     let second = c.copy_word-2 in
-    insert-leaves a.t.now shift.new.bytes a.key.now a.value.now first.new.to second.new.to (64 * a.i) (64 * a.used) (omega arith) (omega arith)
-    shift.ensures first.ensures second.ensures (search rules) (search rules)
+    insert-leaves a.t.now c.copy_within.new.self (64 * a.i) (64 * a.used) (omega arith) (omega arith) c.copy_within.ensures.after
+    a.key.now a.value.now first.new.to second.new.to first.ensures second.ensures (search rules) (search rules)

@@ -1,14 +1,12 @@
--- The two parts that are lent one after the other leave what `opened` says.
-use Prim.Native.Nat.{◌*◌}
-use native.Mathlib.Omega.{arith}
+-- The records that move down, and the zeros in their place, leave what `opened` says.
+use Rattle.std.proofs.Common.{◌*◌, arith}
 use Rattle.gaps.specs.Gaps.{opened}
-use Rattle.gaps.proofs.Moves.{open-leaves}
+use Rattle.gaps.proofs.Opens.{open-leaves}
 use Rattle.gaps.proofs.make_room.Goals as goal
 
 pub returns : goal.returns
 unfolding opened
 returns c =
     let a = c.args in
-    let shift = c.shift_right in
-    open-leaves a.t.now shift.new.bytes c.clear.new.bytes (64 * a.i) (64 * a.count) (64 * a.used) (omega arith) (omega arith)
-    shift.ensures c.clear.ensures
+    open-leaves a.t.now c.copy_within.new.self (64 * a.i) (64 * a.count) (64 * a.used) (omega arith) (omega arith) c.copy_within.ensures.after
+    c.clear.new.bytes c.clear.ensures

@@ -1,9 +1,12 @@
 -- The part that is lent is the value's, and what stands around it stays.
-use Prim.Native.Nat.{◌+◌, ◌*◌}
-use native.Mathlib.Omega.{arith}
+use Rattle.std.proofs.Common.{ℕ, ◌≡◌, ◌+◌, ◌*◌, ◌-◌, ◌≤◌, ◌++◌, take, drop, arith}
+use borrow.Rule.Slice.PartMut.{put_mid, Post-is}
+use Rattle.rules.specs.Words.{Bytes}
 use Rattle.gaps.specs.Gaps.{replaced}
-use Rattle.gaps.proofs.Moves.{replace-leaves}
 use Rattle.gaps.proofs.replace.Goals as goal
+
+replace-leaves : (t value now : Bytes) (at end : ℕ) → at ≤ end → now ≡ value → put_mid at (end - at) t now ≡ take at t ++ (value ++ drop end t)
+replace-leaves t value now at end h e = rw (e, Post-is at end t h)
 
 pub returns : goal.returns
 unfolding replaced

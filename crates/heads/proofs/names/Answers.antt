@@ -1,16 +1,8 @@
 -- The index is judged as a whole word; a place's key stands behind the list length.
-use native.Mathlib.Omega.{arith}
+use Rattle.std.proofs.Common.{arith, rules}
 use Rattle.lists.proofs.LaidRows.{laid-within, laid-small}
-use Rattle.heads.proofs.HeadRows.{no_index, no_place, place-if}
-use borrow.Author.Rules.{rules}
+use Rattle.heads.proofs.HeadRows.{place-if}
 use Rattle.heads.proofs.names.Goals as goal
-
-pub returns-then-place-lt1 : goal.returns-then-place-lt1
-returns-then-place-lt1 c = no_index c.requires.laid _ _ c.small-place.ensures (search rules)
-
-pub returns-then-places-place : goal.returns-then-places-place
-returns-then-places-place c =
-    no_place c.requires.laid _ _ c.small-place.ensures (search rules) (search rules)
 
 pub overflow_add-list : goal.overflow_add-list
 overflow_add-list c = omega (arith, laid-small c.requires.laid)

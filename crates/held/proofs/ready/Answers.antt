@@ -3,5 +3,5 @@
 use Rattle.held.proofs.Copies.{unread-ready}
 use Rattle.held.proofs.ready.Goals as goal
 
-pub returns-else-reading-kind : goal.returns-else-reading-kind
-returns-else-reading-kind c = unread-ready c.unread.ensures c.args.reading
+pub returns-else-eq : goal.returns-else-eq
+returns-else-eq c = unread-ready c.unread.ensures c.args.reading

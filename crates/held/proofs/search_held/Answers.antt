@@ -8,16 +8,9 @@ pub loop-i-init : goal.loop-i-init
 loop-i-init c =
     seek-start c.requires.search_needs c.ready-reading.ensures c.requires.reached
 
-pub read_next-reading-requires : goal.read_next-reading-requires
-read_next-reading-requires c = record { readable = c.requires.readable; reached = c.loop-i.invariant.reached; i_le_read = (c.loop-i.invariant.there, omega (arith, c.loop-i.invariant.small)) }
-
 pub within-requires : goal.within-requires
 within-requires c =
     comparable c.loop-i.invariant c.loop-i-test.true c.read_next-reading.ensures c.requires.search_needs
-
-pub shape_of-copies-then-within : goal.shape_of-copies-then-within
-shape_of-copies-then-within c =
-    omega (arith, c.read_next-reading.ensures.reached.size, c.requires.reached.size)
 
 pub returns-then-within : goal.returns-then-within
 returns-then-within c =
@@ -28,10 +21,6 @@ pub loop-i-preserved : goal.loop-i-preserved
 loop-i-preserved c =
     seek-later c.loop-i.invariant c.loop-i-test.true c.read_next-reading.ensures
     c.within.ensures c.if-within.false
-
-pub shape_of-copies : goal.shape_of-copies
-shape_of-copies c =
-    omega (arith, c.loop-i.invariant.reached.size, c.requires.reached.size)
 
 pub returns : goal.returns
 returns c = seek-end c.loop-i.invariant c.loop-i-test.false

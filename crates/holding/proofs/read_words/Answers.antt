@@ -1,8 +1,6 @@
 -- By how many words the type has: none, one, or two behind each other.
-use native.Mathlib.Omega.{arith}
-use mathlib.Core.Path.{sym, ◌∙◌}
+use Rattle.std.proofs.Common.{arith, sym, ◌∙◌, rules}
 use Rattle.holding.proofs.HeldWords.{read_none, read_one, read-two}
-use borrow.Author.Rules.{rules}
 use Rattle.holding.proofs.read_words.Goals as goal
 
 pub returns-then-count-eq0 : goal.returns-then-count-eq0

@@ -9,31 +9,31 @@ pub returns-then-key-ne-KEY_BYTES : goal.returns-then-key-ne-KEY_BYTES
 unfolding code_number
 returns-then-key-ne-KEY_BYTES c =
     key-wrong c.args.t.now c.args.key.now c.args.address.now c.args.kernel_address.now
-    (search rules) c.refused.ensures
+    (search rules)
 
 pub returns-then-address-ne-ADDRESS_BYTES : goal.returns-then-address-ne-ADDRESS_BYTES
 unfolding code_number
 returns-then-address-ne-ADDRESS_BYTES c =
     address-wrong c.args.t.now c.args.key.now c.args.address.now c.args.kernel_address.now
-    (search rules) (search rules) c.refused-then-address-ne-ADDRESS_BYTES.ensures
+    (search rules) (search rules)
 
 pub returns-then-kernel_address-ne-ADDRESS_BYTES : goal.returns-then-kernel_address-ne-ADDRESS_BYTES
 unfolding code_number
 returns-then-kernel_address-ne-ADDRESS_BYTES c =
     kernel-wrong c.args.t.now c.args.key.now c.args.address.now c.args.kernel_address.now
-    (search rules) (search rules) (search rules) c.refused-then-kernel_address-ne-ADDRESS_BYTES.ensures
+    (search rules) (search rules) (search rules)
 
 pub returns-then-t-ne0 : goal.returns-then-t-ne0
 unfolding code_number
 returns-then-t-ne0 c =
     not-whole c.args.t.now c.args.key.now c.args.address.now c.args.kernel_address.now
-    (search rules) (search rules) (search rules) (search rules) c.refused-then-t-ne0.ensures
+    (search rules) (search rules) (search rules) (search rules)
 
 pub returns-then-t-gt-GREATEST_TABLE : goal.returns-then-t-gt-GREATEST_TABLE
 unfolding code_number
 returns-then-t-gt-GREATEST_TABLE c =
     too_long c.args.t.now c.args.key.now c.args.address.now c.args.kernel_address.now
-    (search rules) (search rules) (search rules) (search rules) (search rules) c.refused-then-t-gt-GREATEST_TABLE.ensures
+    (search rules) (search rules) (search rules) (search rules) (search rules)
 
 pub set_up_fresh-requires : goal.set_up_fresh-requires
 set_up_fresh-requires c =

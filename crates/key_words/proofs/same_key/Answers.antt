@@ -1,17 +1,16 @@
 -- Where the 8 bytes before the key are zero, the others have the number of the word; where not, the word is no key.
+use Rattle.std.proofs.Common.{ap, sym, ◌∙◌, eqb, ltb-true, arith}
+use Rattle.rules.specs.Words.{num}
 use Rattle.limbs.proofs.Limbs.{a_word}
-use Rattle.key_words.proofs.KeyWords.{same_if, not_same}
+use Rattle.key_words.proofs.KeyWords.{leading-zero, key-number, not_same}
 use Rattle.key_words.proofs.same_key.Goals as goal
 
 pub returns-then-is_zero : goal.returns-then-is_zero
 returns-then-is_zero c =
-    same_if (a_word c.requires.0 (λ i. (c.shared_slice_known-1.given i).fits)) c.args.key.now
-    c.requires.1
-    (λ i. (c.shared_slice_known-2-1.given i).fits) c.is_zero.ensures
-    c.if-is_zero.true c.same.ensures
+    let below = c.is_zero.ensures ∙ leading-zero (a_word c.requires.0 (λ i. (c.type_inv.word i).fits)) 8 (omega arith) in
+    c.same.ensures ∙ ap (λ x. eqb x (num c.args.key.now)) (key-number c.key_part.ensures (ltb-true _ _ (sym below ∙ c.if-is_zero.true)))
 
 pub returns-else-is_zero : goal.returns-else-is_zero
 returns-else-is_zero c =
-    not_same (a_word c.requires.0 (λ i. (c.shared_slice_known-1.given i).fits)) c.args.key.now
-    c.requires.1
-    (λ i. (c.shared_slice_known-2-1.given i).fits) c.is_zero.ensures c.if-is_zero.false
+    let below = c.is_zero.ensures ∙ leading-zero (a_word c.requires.0 (λ i. (c.type_inv.word i).fits)) 8 (omega arith) in
+    c.if-is_zero.false ∙ not_same c.args.word.now c.args.key.now c.requires.1 (λ i. (c.type_inv.key i).fits) (sym below ∙ c.if-is_zero.false)

@@ -1,16 +1,16 @@
 -- The leading bytes are zero where the number is below a power of 256.
+use Rattle.std.proofs.Common.{ap, ◌∙◌, not}
+use mathlib.Core.Bool.{and-true, and-false}
 use Rattle.limbs.proofs.Limbs.{a_word}
-use Rattle.key_words.proofs.KeyWords.{right-if, not_right}
+use Rattle.key_words.proofs.KeyWords.{leading-zero, not-zero}
 use Rattle.key_words.proofs.stands_right.Goals as goal
 
 pub returns-then-is_zero : goal.returns-then-is_zero
 returns-then-is_zero c =
-    right-if (a_word {bs = c.args.word.now} c.requires.0 (λ i. (c.shared_slice_known-1.given i).fits))
-    c.args.leading c.requires.1
-    c.is_zero.ensures c.if-is_zero.true c.is_zero-then-is_zero.ensures
+    let below = c.is_zero.ensures ∙ leading-zero (a_word c.requires.0 (λ i. (c.type_inv.word i).fits)) c.args.leading c.requires.1 in
+    rw (← below, c.if-is_zero.true, and-true) (ap not c.is_zero-then-is_zero.ensures ∙ not-zero _)
 
 pub returns-else-is_zero : goal.returns-else-is_zero
 returns-else-is_zero c =
-    not_right (a_word {bs = c.args.word.now} c.requires.0 (λ i. (c.shared_slice_known-1.given i).fits))
-    c.args.leading c.requires.1
-    c.is_zero.ensures c.if-is_zero.false
+    let below = c.is_zero.ensures ∙ leading-zero (a_word c.requires.0 (λ i. (c.type_inv.word i).fits)) c.args.leading c.requires.1 in
+    rw (← below, c.if-is_zero.false, and-false)

@@ -3,4 +3,4 @@ use Rattle.keys.proofs.KeyRead.{end-second-read}
 use Rattle.keys.proofs.end_second.Goals as goal
 
 pub returns : goal.returns
-returns c = end-second-read _ c.requires (λ i. (c.shared_slice_known-1.given i).fits)
+returns c = end-second-read _ c.requires c.type_inv.key

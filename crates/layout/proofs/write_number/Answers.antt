@@ -1,5 +1,5 @@
--- The loop's invariant is `Written`: the digits that are left and the bytes behind the index are the number's.
-use native.Mathlib.Omega.{arith}
+-- The loop's invariant is `Written`: the digits that are left and the bytes from the index on are the number's.
+use Rattle.std.proofs.Common.{arith}
 use Rattle.layout.proofs.Digits.{written_none, written-more, written_all}
 use Rattle.layout.proofs.write_number.Goals as goal
 

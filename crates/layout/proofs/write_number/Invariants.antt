@@ -1,10 +1,7 @@
--- The loop's invariant is `Written`: the digits that are left and the bytes behind the index are the number's.
-use lib.ListN.{length}
+-- The loop's invariant is `Written`: the digits that are left and the bytes from the index on are the number's.
+use Rattle.std.proofs.Common.{length}
 use Rattle.layout.proofs.Digits.{Written}
 use Rattle.layout.proofs.write_number.Given as goal
 
 abbrev pub invariant-loop-i : goal.invariant-loop-i
 invariant-loop-i l = Written l.n (length l.initial.to) l.to l.left l.i
-
-abbrev pub decreases-loop-i : goal.decreases-loop-i
-decreases-loop-i l = l.i

@@ -1,7 +1,12 @@
--- A part of four bytes is the limb where it starts (`limb-part`).
-use borrow.Author.Rules.{rules}
-use Rattle.limbs.proofs.Limbs.{limb-part}
+-- The library reads four bytes as the rules do.
+use Rattle.std.proofs.Common.{◌∙◌, arith, ap}
+use Rattle.rules.specs.Words.{num}
+use Rattle.limbs.proofs.Limbs.{four-bytes}
 use Rattle.limbs.proofs.limb.Goals as goal
 
 pub returns : goal.returns
-returns c = limb-part (search rules) (λ k. (c.shared_slice_known-1.given k).fits) c.number.ensures
+returns c =
+    record {
+      is = c.from_be_bytes.ensures ∙ four-bytes _ c.array_at.ensures.len ∙ ap num c.array_at.ensures.value;
+      fits = omega arith;
+    }

@@ -1,6 +1,8 @@
--- A part of eight bytes is the limb where it starts (`long-limb-part`).
-use Rattle.limbs.proofs.Limbs.{long-limb-part}
+-- The library reads eight bytes as the rules do.
+use Rattle.std.proofs.Common.{◌∙◌, ap}
+use Rattle.rules.specs.Words.{num}
+use Rattle.limbs.proofs.Limbs.{eight-bytes}
 use Rattle.limbs.proofs.long_limb.Goals as goal
 
 pub returns : goal.returns
-returns c = long-limb-part _ _ c.long_number.ensures
+returns c = record { is = c.from_be_bytes.ensures ∙ eight-bytes _ c.array_at.ensures.len ∙ ap num c.array_at.ensures.value }

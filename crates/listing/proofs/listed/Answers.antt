@@ -1,5 +1,5 @@
 -- By the index: none, beyond the list, or that of a place, where the key stands or not.
-use borrow.Author.Rules.{rules}
+use Rattle.std.proofs.Common.{inl, inr, rules}
 use Rattle.rules.specs.Table.{store}
 use Rattle.rules.specs.Words.{num}
 use Rattle.listing.proofs.Lookups.{small_at, no_index, index-beyond, index-inside}
@@ -7,15 +7,11 @@ use Rattle.listing.proofs.listed.Goals as goal
 
 pub returns-then-index-lt1 : goal.returns-then-index-lt1
 returns-then-index-lt1 c =
-    no_index c.requires.listing (num c.args.procedure.now)
-    (small_at (store c.args.t.now) c.index_slot-index_slot.ensures c.value_at.ensures c.small-index.ensures)
-    (search rules)
-
-pub returns-then-places-index : goal.returns-then-places-index
-returns-then-places-index c =
-    index-beyond c.requires.listing (num c.args.procedure.now)
-    (small_at (store c.args.t.now) c.index_slot-index_slot.ensures c.value_at.ensures c.small-index.ensures)
-    (search rules)
+    let small = small_at (store c.args.t.now) c.index_slot-index_slot.ensures c.value_at.ensures c.small-index.ensures in
+    elim c.then-index-lt1.either [
+      | inl low ↦ no_index c.requires.listing (num c.args.procedure.now) small low
+      | inr high ↦ index-beyond c.requires.listing (num c.args.procedure.now) small high.1
+    ]
 
 pub returns : goal.returns
 returns c =

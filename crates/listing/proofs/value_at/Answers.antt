@@ -1,5 +1,5 @@
 -- What was looked up are the 32 bytes of what the slot holds.
-use mathlib.Core.Path.{refl}
+use Rattle.std.proofs.Common.{refl}
 use Rattle.holding.proofs.HeldWords.{looked}
 use Rattle.listing.proofs.value_at.Goals as goal
 

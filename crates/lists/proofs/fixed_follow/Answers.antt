@@ -1,19 +1,26 @@
 -- Three records, each compared with its slot.
+use Rattle.std.proofs.Common.{true≢false, sym, ◌∙◌}
 use Rattle.lists.proofs.ListRows.{no_address, no-current, entry-if}
 use Rattle.lists.proofs.fixed_follow.Goals as goal
+use Rattle.lists.proofs.fixed_follow.Goals.{then-is_slot, else-is_slot}
 
-pub returns-then-has_key-2 : goal.returns-then-has_key-2
-returns-then-has_key-2 c =
-    entry-if c.requires.occupied c.args.i c.requires.i_value c.kernel_address_slot.ensures c.has_key.ensures
-    c.if-has_key.true c.current_slot.ensures c.has_key-then-has_key.ensures c.if-has_key-2.true
-    c.entry_slot.ensures c.has_key-then-has_key-2.ensures
+pub returns-then-is_slot-2 : goal.returns-then-is_slot-2
+returns-then-is_slot-2 c =
+    elim c.if-is_slot.branch [
+      | then-is_slot w ↦
+          entry-if c.requires.occupied c.args.i c.requires.i_value c.kernel_address_slot.ensures c.is_slot.ensures
+          w.if-is_slot.true w.current_slot.ensures w.is_slot-then-is_slot.ensures (sym w.value-is ∙ c.if-is_slot-2.true)
+          c.entry_slot.ensures c.is_slot-then-is_slot-2.ensures
+      | else-is_slot w ↦ absurd (true≢false (sym c.if-is_slot-2.true ∙ w.value-is ∙ w.if-is_slot.false))
+    ]
 
-pub returns-else-has_key-2 : goal.returns-else-has_key-2
-returns-else-has_key-2 c =
-    no-current c.requires.occupied c.args.i c.requires.i_value c.kernel_address_slot.ensures c.has_key.ensures
-    c.if-has_key.true c.current_slot.ensures c.has_key-then-has_key.ensures c.if-has_key-2.false
-
-pub returns-else-has_key : goal.returns-else-has_key
-returns-else-has_key c =
-    no_address c.requires.occupied c.args.i c.requires.i_value c.kernel_address_slot.ensures c.has_key.ensures
-    c.if-has_key.false
+pub returns-else-is_slot-2 : goal.returns-else-is_slot-2
+returns-else-is_slot-2 c =
+    c.if-is_slot-2.false
+    ∙ elim c.if-is_slot.branch [
+      | then-is_slot w ↦
+          no-current c.requires.occupied c.args.i c.requires.i_value c.kernel_address_slot.ensures c.is_slot.ensures
+          w.if-is_slot.true w.current_slot.ensures w.is_slot-then-is_slot.ensures (sym w.value-is ∙ c.if-is_slot-2.false)
+      | else-is_slot w ↦
+          no_address c.requires.occupied c.args.i c.requires.i_value c.kernel_address_slot.ensures c.is_slot.ensures w.if-is_slot.false
+    ]

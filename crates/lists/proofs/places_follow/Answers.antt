@@ -1,7 +1,5 @@
 -- The loop keeps `Following`: the places before have their keys.
-use native.Mathlib.Omega.{arith}
-use mathlib.Core.Path.{◌∙◌}
-use borrow.Author.Rules.{rules}
+use Rattle.std.proofs.Common.{arith, rules}
 use Rattle.listing.proofs.Lookups.{few}
 use Rattle.lists.proofs.ListRows.{within, follow-starts, follow-turns, follow-stops, follow-ends}
 use Rattle.lists.proofs.places_follow.Goals as goal
@@ -18,17 +16,13 @@ loop-i-init c = follow-starts c.requires.occupied c.requires.list_bound.0
 pub word_at-requires : goal.word_at-requires
 word_at-requires c = omega (arith, within c.requires.occupied)
 
-pub is_place-requires : goal.is_place-requires
-is_place-requires c =
-    record { key_len = (search rules, search rules); start_value = (c.word_at-start.ensures.number ∙ c.requires.list_bound.1, search rules) }
-
 pub loop-i-preserved : goal.loop-i-preserved
 loop-i-preserved c =
-    follow-turns c.loop-i.invariant (search rules) c.word_at.ensures c.is_place.ensures c.if-is_place.true
+    follow-turns c.loop-i.invariant (search rules) c.word_at.ensures c.is_place_key.ensures c.if-not-is_place_key.false
 
-pub returns-else-is_place : goal.returns-else-is_place
-returns-else-is_place c =
-    follow-stops c.loop-i.invariant (search rules) c.word_at.ensures c.is_place.ensures c.if-is_place.false
+pub returns-then-not-is_place_key : goal.returns-then-not-is_place_key
+returns-then-not-is_place_key c =
+    follow-stops c.loop-i.invariant (search rules) c.word_at.ensures c.is_place_key.ensures c.if-not-is_place_key.true
 
 pub returns : goal.returns
 returns c = follow-ends c.loop-i.invariant (search rules) c.fixed_follow.ensures

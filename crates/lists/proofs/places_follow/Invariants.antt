@@ -1,10 +1,6 @@
 -- The loop keeps `Following`: the places before have their keys.
-use Prim.Native.Nat.{◌-◌}
 use Rattle.lists.proofs.ListRows.{Following}
 use Rattle.lists.proofs.places_follow.Given as goal
 
 abbrev pub invariant-loop-i : goal.invariant-loop-i
 invariant-loop-i l = Following l.t l.used l.list l.last l.i
-
-abbrev pub decreases-loop-i : goal.decreases-loop-i
-decreases-loop-i l = l.last - l.i

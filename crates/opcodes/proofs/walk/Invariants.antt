@@ -1,12 +1,10 @@
--- The loop's invariant is `Walked`: what is left of the code from the index on decides. Each step passes the opcodes that push nothing,
--- and then adds one opcode and its data, so the index rises, and with the code's bounded length no sum wraps.
-use Prim.Native.Nat.{◌-◌}
-use lib.ListN.{length}
-use Rattle.opcodes.proofs.Walks.{Walked}
+-- What is left of the code decides; each step drops at least an opcode.
+use Rattle.std.proofs.Common.{length, ◌≡◌}
+use Rattle.rules.specs.Validation.{walk}
 use Rattle.opcodes.proofs.walk.Given as goal
 
-abbrev pub invariant-loop-i : goal.invariant-loop-i
-invariant-loop-i l = Walked l.mask l.code 0 l.i
+abbrev pub invariant-loop-at : goal.invariant-loop-at
+invariant-loop-at l = walk l.mask 0 l.code ≡ walk l.mask 0 l.rest
 
-abbrev pub decreases-loop-i : goal.decreases-loop-i
-decreases-loop-i l = length l.code - l.i
+abbrev pub decreases-loop-at : goal.decreases-loop-at
+decreases-loop-at l = length l.rest

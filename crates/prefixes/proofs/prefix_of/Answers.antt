@@ -5,7 +5,7 @@ use Rattle.prefixes.proofs.PrefixWords.{prefix-byte}
 use Rattle.prefixes.proofs.prefix_of.Goals as goal
 
 pub overflow_cast-result : goal.overflow_cast-result
-overflow_cast-result c = omega (arith, c.shared_slice_known-1.given 0)
+overflow_cast-result c = omega (arith, c.type_inv.capability 0)
 
 pub returns : goal.returns
-returns c = sym (prefix-byte (record { size = c.requires; values = λ i. (c.shared_slice_known-1.given i).fits }))
+returns c = sym (prefix-byte (record { size = c.requires; values = λ i. (c.type_inv.capability i).fits }))

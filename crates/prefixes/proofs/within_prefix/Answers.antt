@@ -1,20 +1,22 @@
 -- The prefixes first; then the first bits of the two bases, in the prefix of a.
+use Rattle.std.proofs.Common.{◌∙◌}
+use Rattle.std.proofs.lemmas.Bool.{lt-leb}
 use Rattle.prefixes.proofs.PrefixWords.{longer-within, shorter-not-within}
-use borrow.Author.Rules.{rules}
 use Rattle.prefixes.proofs.within_prefix.Goals as goal
 
 pub returns-then-a_prefix-b_prefix : goal.returns-then-a_prefix-b_prefix
 returns-then-a_prefix-b_prefix c =
     longer-within
-    (record { size = search rules; values = λ i. (c.shared_slice_known-2-1.given i).fits })
-    (record { size = search rules; values = λ i. (c.shared_slice_known-1.given i).fits })
+    (record { size = c.requires.b_len.1; values = λ i. (c.type_inv.a i).fits })
+    (record { size = c.requires.b_len.0; values = λ i. (c.type_inv.b i).fits })
     c.prefix_of-a_prefix.ensures c.prefix_of-b_prefix.ensures
     c.if-a_prefix-b_prefix.true c.key_part-then-a_prefix-b_prefix.ensures c.key_part.ensures
     c.same_first_bits.ensures
 
 pub returns-else-a_prefix-b_prefix : goal.returns-else-a_prefix-b_prefix
 returns-else-a_prefix-b_prefix c =
-    shorter-not-within
-    (record { size = search rules; values = λ i. (c.shared_slice_known-2-1.given i).fits })
-    (record { size = search rules; values = λ i. (c.shared_slice_known-1.given i).fits })
+    lt-leb _ _ c.if-a_prefix-b_prefix.false
+    ∙ shorter-not-within
+    (record { size = c.requires.b_len.1; values = λ i. (c.type_inv.a i).fits })
+    (record { size = c.requires.b_len.0; values = λ i. (c.type_inv.b i).fits })
     c.prefix_of-a_prefix.ensures c.prefix_of-b_prefix.ensures c.if-a_prefix-b_prefix.false

@@ -1,10 +1,6 @@
--- The loop's invariant is `StoringKinds`: the types from a number on are left to store.
-use Prim.Native.Nat.{◌-◌}
+-- The loop's invariant is `StoringKinds`: the types from an index on are left to store.
 use Rattle.procedure_records.proofs.AllTypes.{StoringKinds}
 use Rattle.procedure_records.proofs.put_kinds.Given as goal
 
-abbrev pub invariant-loop-number : goal.invariant-loop-number
-invariant-loop-number l = StoringKinds l.initial.t l.procedure l.d l.counts l.t l.stored l.number
-
-abbrev pub decreases-loop-number : goal.decreases-loop-number
-decreases-loop-number l = 8 - l.number
+abbrev pub invariant-loop-kind : goal.invariant-loop-kind
+invariant-loop-kind l = StoringKinds l.initial.t l.procedure l.d l.counts l.t l.stored l.kind-index

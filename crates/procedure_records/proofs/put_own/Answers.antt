@@ -3,17 +3,11 @@ use mathlib.Core.Path.{refl}
 use Rattle.capability_records.proofs.Left.{left-all, left-none, left-ready, left-put}
 use Rattle.procedure_records.proofs.put_own.Goals as goal
 
-pub put-stored-requires : goal.put-stored-requires
-put-stored-requires c =
-    let r = left-ready (left-all c.requires.takes) refl c.address_slot-slot.ensures (record { size = c.requires.procedure_len.1; number = refl }) in
-    record { t_value = r.0; used_value = r.1.0; key_len = r.1.1.0; value_len_bound = r.1.1.1 }
-
-pub put-requires : goal.put-requires
-put-requires c =
-    let r = left-ready
+pub put-requires-clause-value_len_bound : goal.put-requires-clause-value_len_bound
+put-requires-clause-value_len_bound c =
+    (left-ready
     (left-put (left-all c.requires.takes) refl c.address_slot-slot.ensures (record { size = c.requires.procedure_len.1; number = refl }) c.put-stored.ensures)
-    refl c.index_slot.ensures c.number_word.ensures in
-    record { t_value = r.0; used_value = r.1.0; key_len = r.1.1.0; value_len_bound = r.1.1.1 }
+    refl c.index_slot.ensures c.number_word.ensures).1.1.1
 
 pub returns : goal.returns
 returns c =

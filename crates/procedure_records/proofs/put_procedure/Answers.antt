@@ -1,11 +1,6 @@
 -- Two calls, one after the other: the records that are left after the second are none.
-use Rattle.procedure_records.proofs.Own.{own-takes, kinds-needs, procedure-put}
+use Rattle.procedure_records.proofs.Own.{kinds-needs, procedure-put}
 use Rattle.procedure_records.proofs.put_procedure.Goals as goal
-
-pub put_own-named-requires : goal.put_own-named-requires
-put_own-named-requires c =
-    let need = c.requires in
-    record { takes = own-takes need; procedure_len = (need.key, need.word) }
 
 pub put_kinds-requires : goal.put_kinds-requires
 put_kinds-requires c =

@@ -22,7 +22,6 @@ pub returns-then-t-after : goal.returns-then-t-after
 unfolding code_number
 returns-then-t-after c =
     register-no-room c.requires.sound_with c.args.d.now c.requires.appendable c.records_needed-needed.ensures (search rules) c.args.tests
-    c.refused.ensures
 
 pub append-requires : goal.append-requires
 append-requires c =
@@ -32,4 +31,4 @@ append-requires c =
 pub returns : goal.returns
 returns c =
     register-done c.requires.sound_with c.args.d.now c.requires.appendable c.records_needed-needed.ensures (search rules)
-    c.key_of.ensures c.address_word.ensures c.append.ensures c.args.tests c.registered.ensures
+    c.key_of.ensures c.address_word.ensures c.append.ensures c.args.tests

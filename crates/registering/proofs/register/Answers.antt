@@ -9,13 +9,13 @@ pub returns-then-is_zero : goal.returns-then-is_zero
 unfolding code_number
 returns-then-is_zero c =
     register-zero-key c.args.t.now c.args.d.now c.args.code.now c.args.mask.now c.key_word-key.ensures
-    c.is_zero.ensures c.if-is_zero.true c.refused.ensures
+    c.is_zero.ensures c.if-is_zero.true
 
 pub returns-then-is_zero-2 : goal.returns-then-is_zero-2
 unfolding code_number
 returns-then-is_zero-2 c =
     register-zero-address c.args.t.now c.args.d.now c.args.code.now c.args.mask.now c.key_word-key.ensures
-    c.is_zero.ensures c.if-is_zero.false c.address_word.ensures c.is_zero-2.ensures c.if-is_zero-2.true c.refused-then-is_zero-2.ensures
+    c.is_zero.ensures c.if-is_zero.false c.address_word.ensures c.is_zero-2.ensures c.if-is_zero-2.true
 
 pub permits-requires : goal.permits-requires
 unfolding number
@@ -27,14 +27,14 @@ unfolding code_number number
 returns-then-not-permits c =
     register-not-covered c.args.t.now c.args.d.now c.args.code.now c.args.mask.now c.key_word-key.ensures
     c.is_zero.ensures c.if-is_zero.false c.address_word.ensures c.is_zero-2.ensures c.if-is_zero-2.false
-    c.permits.ensures c.if-not-permits.true c.refused-then-not-permits.ensures
+    c.permits.ensures c.if-not-permits.true
 
 pub returns-then-not-passes : goal.returns-then-not-passes
 unfolding code_number number
 returns-then-not-passes c =
     register-code-fails c.args.t.now c.args.d.now c.args.code.now c.args.mask.now c.key_word-key.ensures
     c.is_zero.ensures c.if-is_zero.false c.address_word.ensures c.is_zero-2.ensures c.if-is_zero-2.false
-    c.permits.ensures c.if-not-permits.false c.passes.ensures c.if-not-passes.true c.refused-then-not-passes.ensures
+    c.permits.ensures c.if-not-permits.false c.passes.ensures c.if-not-passes.true
 
 pub returns-then-not-well_formed : goal.returns-then-not-well_formed
 unfolding code_number number
@@ -42,7 +42,7 @@ returns-then-not-well_formed c =
     register-malformed c.args.t.now c.args.d.now c.args.code.now c.args.mask.now c.key_word-key.ensures
     c.is_zero.ensures c.if-is_zero.false c.address_word.ensures c.is_zero-2.ensures c.if-is_zero-2.false
     c.permits.ensures c.if-not-permits.false c.passes.ensures c.if-not-passes.false
-    c.well_formed-2.ensures c.if-not-well_formed.true c.refused-then-not-well_formed.ensures
+    c.well_formed-2.ensures c.if-not-well_formed.true
 
 pub judge_series-requires : goal.judge_series-requires
 unfolding number

@@ -1,13 +1,11 @@
 -- The records between the places of the first and the last slot are the procedure's, and closing that gap leaves the others.
-use Rattle.std.proofs.Common.{ℕ, ◌+◌, ap, ◌∙◌}
-use native.Mathlib.Omega.{arith}
+use Rattle.std.proofs.Common.{ℕ, ◌+◌, ap, ◌∙◌, arith, rules}
 use Rattle.rules.specs.Words.{num}
 use Rattle.rules.specs.Table.{store}
 use Rattle.rules.specs.KernelStorage.{address_slot}
 use Rattle.finding.specs.Finding.{keys_below}
 use Rattle.storing.proofs.Puts.{stored-as}
 use Rattle.removing.proofs.ProcedureRecords.{Bounds, bounds-fit, closes}
-use borrow.Author.Rules.{rules}
 use Rattle.removing.proofs.remove_procedure.Goals as goal
 use Rattle.removing.proofs.remove_procedure.Goals.{After-keys_through-j}
 

@@ -1,23 +1,28 @@
 -- Each arm's struct is the one of its case.
+use Rattle.std.proofs.Common.{rules, ◌≡◌, refl, Ok}
+use Rattle.rules.specs.declared.Success.TheVariants.{Done, Called, Registered, Looked}
 use Rattle.replies.specs.Parts.{struct_of}
 use Rattle.replies.proofs.laid_out.Goals as goal
 
-pub returns-in-Refused : goal.returns-in-Refused
+pub returns-in-Ok-Done : goal.returns-in-Ok-Done
 unfolding struct_of
-returns-in-Refused c = rw (c.in-Refused.is, struct_of) c.refused.ensures
+returns-in-Ok-Done c = let e : c.args.reply ≡ Ok Done = search rules in rw (e, struct_of) refl
 
-pub returns-in-Done : goal.returns-in-Done
+pub returns-in-Ok-Called : goal.returns-in-Ok-Called
 unfolding struct_of
-returns-in-Done c = rw (c.in-Done.is, struct_of) c.success.ensures
+returns-in-Ok-Called c =
+    let e : c.args.reply ≡ Ok (Called c.in-Ok-Called.address) = search rules in rw (e, struct_of) refl
 
-pub returns-in-Called : goal.returns-in-Called
+pub returns-in-Ok-Registered : goal.returns-in-Ok-Registered
 unfolding struct_of
-returns-in-Called c = rw (c.in-Called.is, struct_of) c.success-in-Called.ensures
+returns-in-Ok-Registered c =
+    let e : c.args.reply ≡ Ok (Registered c.in-Ok-Registered.tests) = search rules in rw (e, struct_of) refl
 
-pub returns-in-Registered : goal.returns-in-Registered
+pub returns-in-Ok-Looked : goal.returns-in-Ok-Looked
 unfolding struct_of
-returns-in-Registered c = rw (c.in-Registered.is, struct_of) c.success-in-Registered.ensures
+returns-in-Ok-Looked c =
+    let e : c.args.reply ≡ Ok (Looked c.in-Ok-Looked.value) = search rules in rw (e, struct_of) refl
 
-pub returns-in-Looked : goal.returns-in-Looked
+pub returns-in-Err : goal.returns-in-Err
 unfolding struct_of
-returns-in-Looked c = rw (c.in-Looked.is, struct_of) c.success-in-Looked.ensures
+returns-in-Err c = rw (c.in-Err.is, struct_of, c.code_len.ensures, c.padded_code.ensures) refl

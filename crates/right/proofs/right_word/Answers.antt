@@ -3,4 +3,4 @@ use Rattle.right.proofs.Right.{right-held}
 use Rattle.right.proofs.right_word.Goals as goal
 
 pub returns : goal.returns
-returns c = right-held _ _ c.requires c.copy.ensures
+returns c = right-held _ _ c.requires c.copy_from_slice.ensures.after

@@ -1,6 +1,6 @@
 -- The type before, the number of the capability, that of the word, then the prefix.
-use mathlib.Core.Path.{refl}
-use borrow.Author.Rules.{rules}
+use Rattle.std.proofs.Common.{rules, refl, ◌∙◌}
+use borrow.Author.Tests.{le-ltb}
 use Rattle.rows.proofs.Rows.{other-type, no-capability, past-count, no_word, word-if}
 use Rattle.rows.proofs.word_row.Goals as goal
 
@@ -22,6 +22,7 @@ returns-then-end_third-words c =
     c.prefix_in_range.ensures
 
 pub returns-else-end_third-words : goal.returns-else-end_third-words
-returns-else-end_third-words c =
-    no_word _ _ _ _ _ c.end_first.ensures c.if-before-end_first.false c.end_second-i.ensures (search rules) (search rules)
-    c.end_third.ensures c.words.ensures.count (search rules)
+returns-else-end_third-words c = λ kind q.
+    le-ltb _ _ c.if-end_third-words.false
+    ∙ no_word _ _ _ _ _ c.end_first.ensures c.if-before-end_first.false c.end_second-i.ensures (search rules) (search rules)
+    c.end_third.ensures c.words.ensures.count c.if-end_third-words.false kind q

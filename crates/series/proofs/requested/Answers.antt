@@ -3,32 +3,25 @@ use native.Mathlib.Omega.{arith}
 use Rattle.series.proofs.Counted.{number-below, counted_none, counted-more, counted-all}
 use Rattle.series.proofs.requested.Goals as goal
 
-pub loop-at-init : goal.loop-at-init
-loop-at-init c = counted_none c.args.d.now c.requires
+pub loop-request-init : goal.loop-request-init
+loop-request-init c =
+    rw c.into_iter-request-iterator.ensures.into_iter_gives (counted_none c.requests-request-items.ensures)
 
-pub request_at-request-requires : goal.request_at-request-requires
-request_at-request-requires c = (omega arith, c.loop-at.invariant.rest)
-
-pub bounds-counts-number : goal.bounds-counts-number
-bounds-counts-number c =
-    let request = c.request_at-request.ensures in
-    omega (arith, number-below request.kind, request.type)
+pub bounds-counts-request : goal.bounds-counts-request
+bounds-counts-request c =
+    let first = c.in-Some.ensures.steps in
+    omega (arith, number-below first.request.kind, first.type)
 
 pub overflow_add-counts : goal.overflow_add-counts
-overflow_add-counts c = omega (arith, c.loop-at.invariant.few c.request_at-request.result.kind.0)
+overflow_add-counts c = omega (arith, c.loop-request.invariant.few c.in-Some.request.kind.0)
 
-pub bounds-counts-number-in-loop-at : goal.bounds-counts-number-in-loop-at
-bounds-counts-number-in-loop-at c =
-    let request = c.request_at-request.ensures in
-    omega (arith, number-below request.kind, request.type)
+pub bounds-counts-request-in-loop-request : goal.bounds-counts-request-in-loop-request
+bounds-counts-request-in-loop-request c =
+    let first = c.in-Some.ensures.steps in
+    omega (arith, number-below first.request.kind, first.type)
 
-pub loop-at-smaller : goal.loop-at-smaller
-loop-at-smaller c =
-    let request = c.request_at-request.ensures in
-    omega (arith, request.within, request.next_at, request.words_at)
-
-pub loop-at-preserved : goal.loop-at-preserved
-loop-at-preserved c = counted-more c.loop-at.invariant c.request_at-request.ensures
+pub loop-request-preserved : goal.loop-request-preserved
+loop-request-preserved c = counted-more c.loop-request.invariant c.in-Some.ensures.steps
 
 pub returns : goal.returns
-returns c = counted-all c.loop-at.invariant (omega arith)
+returns c = counted-all c.loop-request.invariant c.in-None.ensures.steps.0

@@ -1,20 +1,13 @@
--- The loop's invariant is `Searched`: no count before the number is too large.
-use native.Mathlib.Omega.{arith}
-use Rattle.series.proofs.Counted.{searched-none, searched-more, searched-stop, searched-all}
+-- The search over the counts finds one that is too large, or none is.
+use Rattle.std.proofs.Common.{rules, ◌<◌, ◌≤◌}
+use Rattle.std.proofs.lemmas.Iterator.{YieldsList-from_slice, cases_from_any}
+use Rattle.rules.specs.Messages.{requests}
+use Rattle.rules.specs.Sound.{greatest_count}
+use borrow.Author.Tests.{tests}
+use Rattle.series.proofs.Counted.{counts-decide}
 use Rattle.series.proofs.too_many.Goals as goal
 
-pub loop-number-init : goal.loop-number-init
-loop-number-init c = searched-none _
-
-pub returns-then-counts-number-gt-GREATEST_COUNT : goal.returns-then-counts-number-gt-GREATEST_COUNT
-returns-then-counts-number-gt-GREATEST_COUNT c =
-    let counts = c.requested-counts.ensures in
-    searched-stop c.loop-number.invariant (omega arith) (rw counts at c.if-counts-number-gt-GREATEST_COUNT.true)
-
-pub loop-number-preserved : goal.loop-number-preserved
-loop-number-preserved c =
-    let counts = c.requested-counts.ensures in
-    searched-more c.loop-number.invariant (omega arith) (rw counts at c.if-counts-number-gt-GREATEST_COUNT.false)
-
 pub returns : goal.returns
-returns c = searched-all c.loop-number.invariant (omega arith)
+returns c =
+    counts-decide (requests c.args.d.now) c.requested-counts.ensures c.any.result
+    (cases_from_any _ _ _ (λ x. greatest_count < x) (λ x. x ≤ greatest_count) c.any.ensures.ran (YieldsList-from_slice c.requested-counts.result cc) (λ x q k. search (rules, tests)) (λ x q k. search (rules, tests)))

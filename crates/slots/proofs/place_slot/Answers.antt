@@ -1,5 +1,5 @@
 -- The middle is 16 zeros and the 8 bytes of the place, whose number is the place: a `usize` always fits them.
-use native.Mathlib.Omega.{arith}
+use Rattle.std.proofs.Common.{arith}
 use Rattle.rules.specs.KernelStorage.{place_slot}
 use Rattle.slots.proofs.Places.{place-size, place-number}
 use Rattle.slots.proofs.place_slot.Goals as goal

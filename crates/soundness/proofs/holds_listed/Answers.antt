@@ -1,13 +1,9 @@
 -- Where the places are sound only a key is listed.
 use Rattle.rules.specs.Table.{store}
-use Rattle.soundness.proofs.Whole.{key-listed, no-key-listed}
+use Rattle.soundness.proofs.Whole.{key-listed}
 use Rattle.soundness.proofs.holds_listed.Goals as goal
 
 pub returns-then-is_key : goal.returns-then-is_key
 returns-then-is_key c =
     key-listed c.value_at-key.ensures c.is_key.ensures (store c.args.t.now) c.if-is_key.true
     c.key_part.ensures c.listed.ensures
-
-pub returns-else-is_key : goal.returns-else-is_key
-returns-else-is_key c =
-    no-key-listed c.value_at-key.ensures c.is_key.ensures c.requires.sound_list c.if-is_key.false

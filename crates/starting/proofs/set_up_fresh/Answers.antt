@@ -12,7 +12,7 @@ returns-then-is_zero c =
     let kb = all-bytes c.args.key.now (λ i. (c.shared_slice_known-1.given i).fits) in
     let ab = all-bytes c.args.address.now (λ i. (c.shared_slice_known-2-1.given i).fits) in
     let kab = all-bytes c.args.kernel_address.now (λ i. (c.shared_slice_known-3-1.given i).fits) in
-    key-zero c.requires kb ab kab c.is_zero.ensures c.if-is_zero.true c.refused.ensures
+    key-zero c.requires kb ab kab c.is_zero.ensures c.if-is_zero.true
 
 pub returns-then-is_zero-2 : goal.returns-then-is_zero-2
 unfolding code_number
@@ -21,7 +21,6 @@ returns-then-is_zero-2 c =
     let ab = all-bytes c.args.address.now (λ i. (c.shared_slice_known-2-1.given i).fits) in
     let kab = all-bytes c.args.kernel_address.now (λ i. (c.shared_slice_known-3-1.given i).fits) in
     address-zero c.requires kb ab kab c.is_zero.ensures c.if-is_zero.false c.is_zero-2.ensures c.if-is_zero-2.true
-    c.refused-then-is_zero-2.ensures
 
 pub returns-then-is_zero-3 : goal.returns-then-is_zero-3
 unfolding code_number
@@ -30,7 +29,7 @@ returns-then-is_zero-3 c =
     let ab = all-bytes c.args.address.now (λ i. (c.shared_slice_known-2-1.given i).fits) in
     let kab = all-bytes c.args.kernel_address.now (λ i. (c.shared_slice_known-3-1.given i).fits) in
     kernel-zero c.requires kb ab kab c.is_zero.ensures c.if-is_zero.false c.is_zero-2.ensures c.if-is_zero-2.false
-    c.is_zero-3.ensures c.if-is_zero-3.true c.refused-then-is_zero-3.ensures
+    c.is_zero-3.ensures c.if-is_zero-3.true
 
 pub returns-then-t-lt-FIRST_ROOM : goal.returns-then-t-lt-FIRST_ROOM
 unfolding code_number
@@ -39,7 +38,7 @@ returns-then-t-lt-FIRST_ROOM c =
     let ab = all-bytes c.args.address.now (λ i. (c.shared_slice_known-2-1.given i).fits) in
     let kab = all-bytes c.args.kernel_address.now (λ i. (c.shared_slice_known-3-1.given i).fits) in
     set-up-no-room c.requires kb ab kab c.is_zero.ensures c.if-is_zero.false c.is_zero-2.ensures c.if-is_zero-2.false
-    c.is_zero-3.ensures c.if-is_zero-3.false (search rules) c.refused-then-t-lt-FIRST_ROOM.ensures
+    c.is_zero-3.ensures c.if-is_zero-3.false (search rules)
 
 pub found-requires : goal.found-requires
 found-requires c =
@@ -55,4 +54,4 @@ returns c =
     let ab = all-bytes c.args.address.now (λ i. (c.shared_slice_known-2-1.given i).fits) in
     let kab = all-bytes c.args.kernel_address.now (λ i. (c.shared_slice_known-3-1.given i).fits) in
     set-up-done c.requires kb ab kab c.is_zero.ensures c.if-is_zero.false c.is_zero-2.ensures c.if-is_zero-2.false
-    c.is_zero-3.ensures c.if-is_zero-3.false (search rules) c.found.ensures c.done.ensures
+    c.is_zero-3.ensures c.if-is_zero-3.false (search rules) c.found.ensures

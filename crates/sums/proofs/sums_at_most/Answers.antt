@@ -1,23 +1,20 @@
--- The invariant is `Sums`: what is left to compare are the bytes before the offset, with the carry of the limbs after it.
-use borrow.Author.Rules.{rules}
+-- The invariant is `Sums`: what is left to compare are the limbs before this one, with the carry of this one and those after it.
+use Rattle.std.proofs.Common.{rules, arith}
 use Rattle.limbs.proofs.Limbs.{a_word}
-use Rattle.sums.proofs.Sums.{sums-all, sums-less, sums_none}
+use Rattle.sums.proofs.Sums.{sums-all, sums-less}
 use Rattle.sums.proofs.sums_at_most.Goals as goal
 
-pub loop-at-init : goal.loop-at-init
-loop-at-init c =
+pub loop-i-init : goal.loop-i-init
+loop-i-init c =
     sums-all
-    (a_word (search rules) (λ k. (c.shared_slice_known-1.given k).fits))
-    (a_word (search rules) (λ k. (c.shared_slice_known-2-1.given k).fits))
-    (a_word (search rules) (λ k. (c.shared_slice_known-3-1.given k).fits))
-    (a_word (search rules) (λ k. (c.shared_slice_known-4-1.given k).fits))
+    (a_word (search rules) (λ k. (c.type_inv.p k).fits))
+    (a_word (search rules) (λ k. (c.type_inv.q k).fits))
+    (a_word (search rules) (λ k. (c.type_inv.a k).fits))
+    (a_word (search rules) (λ k. (c.type_inv.n k).fits))
 
-pub loop-at-preserved : goal.loop-at-preserved
-loop-at-preserved c =
-    sums-less c.loop-at.invariant (search rules)
-    c.limb.ensures c.limb-in-loop-at.ensures
-    c.limb-in-loop-at-2.ensures c.limb-in-loop-at-3.ensures
+pub loop-i-preserved : goal.loop-i-preserved
+loop-i-preserved c =
+    sums-less c.loop-i.invariant (omega arith)
+    c.limb.ensures c.limb-in-loop-i.ensures
+    c.limb-in-loop-i-2.ensures c.limb-in-loop-i-3.ensures
     (search rules) (search rules)
-
-pub returns : goal.returns
-returns c = sums_none c.loop-at.invariant (search rules)

@@ -10,9 +10,9 @@ unfolding number
 call-requires c =
     record { sound_with = c.requires.sound_with; names_key = call-names c.requires.acceptable (search rules) }
 
-pub returns-then-number : goal.returns-then-number
+pub returns-in-CALL : goal.returns-in-CALL
 unfolding own_row number
-returns-then-number c =
+returns-in-CALL c =
     shown-of-kind c.args.t.now c.args.d.now c.args.code.now c.args.mask.now call (search rules) c.call.ensures
 
 pub register-requires : goal.register-requires
@@ -20,9 +20,9 @@ unfolding number
 register-requires c =
     record { sound_with = c.requires.sound_with; names_procedure = register-names c.requires.acceptable (search rules); mask_len = c.requires.acceptable.mask_size }
 
-pub returns-then-number-2 : goal.returns-then-number-2
+pub returns-in-REGISTER : goal.returns-in-REGISTER
 unfolding own_row number
-returns-then-number-2 c =
+returns-in-REGISTER c =
     shown-of-kind c.args.t.now c.args.d.now c.args.code.now c.args.mask.now register (search rules)
     c.register.ensures
 
@@ -31,9 +31,9 @@ unfolding number
 delete-requires c =
     record { sound_with = c.requires.sound_with; names_key = delete-names c.requires.acceptable (search rules) }
 
-pub returns-then-number-3 : goal.returns-then-number-3
+pub returns-in-DELETE : goal.returns-in-DELETE
 unfolding own_row number
-returns-then-number-3 c =
+returns-in-DELETE c =
     shown-of-kind c.args.t.now c.args.d.now c.args.code.now c.args.mask.now delete (search rules)
     c.delete.ensures
 
@@ -42,9 +42,9 @@ unfolding number
 set_entry-requires c =
     record { sound_with = c.requires.sound_with; names_key = set-entry-names c.requires.acceptable (search rules) }
 
-pub returns-then-number-4 : goal.returns-then-number-4
+pub returns-in-SET_ENTRY : goal.returns-in-SET_ENTRY
 unfolding own_row number
-returns-then-number-4 c =
+returns-in-SET_ENTRY c =
     shown-of-kind c.args.t.now c.args.d.now c.args.code.now c.args.mask.now set_entry (search rules)
     c.set_entry.ensures
 
@@ -54,8 +54,8 @@ write-requires c =
     let a = c.requires.acceptable in
     record { sound_with = c.requires.sound_with; word_bytes_in_bounds = write-long a (is-write a (search rules) (search rules) (search rules) (search rules)) }
 
-pub returns : goal.returns
+pub returns-in_default : goal.returns-in_default
 unfolding own_row number
-returns c =
+returns-in_default c =
     shown-of-kind c.args.t.now c.args.d.now c.args.code.now c.args.mask.now write
     (is-write c.requires.acceptable (search rules) (search rules) (search rules) (search rules)) c.write.ensures

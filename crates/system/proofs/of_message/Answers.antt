@@ -12,7 +12,7 @@ unfolding code_number
 returns-then-short c =
     let type = names-type _ c.in-Of.ensures refl in
     rw (← c.data_of-d.ensures)
-    (short-refused _ _ _ _ _ type c.short.ensures c.if-short.true c.refused-then-short.ensures)
+    (short-refused _ _ _ _ _ type c.short.ensures c.if-short.true)
 
 pub leading-leading-requires : goal.leading-leading-requires
 leading-leading-requires c =
@@ -23,8 +23,7 @@ unfolding code_number
 returns-then-overlong c =
     let type = names-type _ c.in-Of.ensures refl in
     rw (← c.data_of-d.ensures)
-    (overlong-refused _ _ _ _ _ type c.short.ensures c.if-short.false c.overlong-overlong.ensures c.if-overlong.true
-    c.refused-then-overlong.ensures)
+    (overlong-refused _ _ _ _ _ type c.short.ensures c.if-short.false c.overlong-overlong.ensures c.if-overlong.true)
 
 pub returns-then-leading : goal.returns-then-leading
 unfolding code_number
@@ -32,7 +31,7 @@ returns-then-leading c =
     let type = names-type _ c.in-Of.ensures refl in
     rw (← c.data_of-d.ensures)
     (leading-refused _ _ _ _ _ type c.short.ensures c.if-short.false c.overlong-overlong.ensures c.if-overlong.false
-    c.leading-leading.ensures c.if-leading.true c.refused-then-leading.ensures)
+    c.leading-leading.ensures c.if-leading.true)
 
 pub of_kind-requires : goal.of_kind-requires
 of_kind-requires c =
@@ -45,18 +44,18 @@ of_kind-requires c =
 pub returns-in-Unknown : goal.returns-in-Unknown
 unfolding code_number
 returns-in-Unknown c =
-    unknown-refused _ _ _ _ _ (names-unknown _ c.in-Unknown.ensures refl) c.refused.ensures
+    unknown-refused _ _ _ _ _ (names-unknown _ c.in-Unknown.ensures refl)
 
 pub returns-then-d-gt0 : goal.returns-then-d-gt0
 unfolding code_number
 returns-then-d-gt0 c =
     rw (← c.data_of-d.ensures)
-    (null-refused _ _ _ _ _ (names-null _ c.in-Null.ensures refl) (omega (arith, c.if-d-gt0.true)) c.refused-then-d-gt0.ensures)
+    (null-refused _ _ _ _ _ (names-null _ c.in-Null.ensures refl) (omega (arith, c.if-d-gt0.true)))
 
 pub returns-else-d-gt0 : goal.returns-else-d-gt0
 returns-else-d-gt0 c =
     rw (← c.data_of-d.ensures)
-    (null-done _ _ _ _ _ (names-null _ c.in-Null.ensures refl) c.if-d-gt0.false c.done.ensures)
+    (null-done _ _ _ _ _ (names-null _ c.in-Null.ensures refl) c.if-d-gt0.false)
 
 pub returns-else-leading : goal.returns-else-leading
 returns-else-leading c =

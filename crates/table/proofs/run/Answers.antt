@@ -1,10 +1,7 @@
 -- The invariant is `Run`: the records passed are occupied, and whether the keys ascend is still whether those from the last of them
 -- on do. A record whose value is zero ends them, and a key that is not above the one before it decides.
-use Prim.Native.Nat.{ℕ}
-use mathlib.Core.Path.{sym, ap, ◌∙◌}
-use lib.Dec.{eqb}
+use Rattle.std.proofs.Common.{ℕ, sym, ap, ◌∙◌, eqb, rules}
 use Rattle.table.proofs.Forms.{run-starts, run-stops, run-turns, run-falls, run-ends-full}
-use borrow.Author.Rules.{rules}
 use Rattle.table.proofs.run.Goals as goal
 
 pub loop-i-init : goal.loop-i-init
@@ -19,13 +16,13 @@ pub loop-i-preserved : goal.loop-i-preserved
 loop-i-preserved c =
     run-turns c.loop-i.invariant (search rules)
     (ap (λ (x : ℕ). eqb x 0) (sym c.word_at.ensures.number) ∙ sym c.is_zero.ensures ∙ c.if-is_zero.false)
-    (sym c.climbs.ensures ∙ c.if-climbs.true)
+    (sym c.climbs.ensures ∙ c.if-not-climbs.false)
 
-pub returns-else-climbs : goal.returns-else-climbs
-returns-else-climbs c =
+pub returns-then-not-climbs : goal.returns-then-not-climbs
+returns-then-not-climbs c =
     run-falls c.loop-i.invariant (search rules)
     (ap (λ (x : ℕ). eqb x 0) (sym c.word_at.ensures.number) ∙ sym c.is_zero.ensures ∙ c.if-is_zero.false)
-    (sym c.climbs.ensures ∙ c.if-climbs.false)
+    (sym c.climbs.ensures ∙ c.if-not-climbs.true)
 
 pub returns : goal.returns
 returns c = run-ends-full c.loop-i.invariant (search rules)

@@ -1,11 +1,7 @@
 -- The invariant is `Run`: the records passed are occupied, and whether the keys ascend is still whether those from the last of them
 -- on do. A record whose value is zero ends them, and a key that is not above the one before it decides.
-use Prim.Native.Nat.{◌-◌}
 use Rattle.table.proofs.Forms.{Run}
 use Rattle.table.proofs.run.Given as goal
 
 abbrev pub invariant-loop-i : goal.invariant-loop-i
 invariant-loop-i l = Run l.t l.n l.i
-
-abbrev pub decreases-loop-i : goal.decreases-loop-i
-decreases-loop-i l = l.n - l.i

@@ -9,7 +9,7 @@ use Rattle.turning.proofs.turn_to.Goals as goal
 pub returns-then-not-is_listed : goal.returns-then-not-is_listed
 unfolding code_number
 returns-then-not-is_listed c =
-    turn-not-listed c.args.t.now c.args.key.now c.is_listed.ensures c.if-not-is_listed.true c.refused.ensures
+    turn-not-listed c.args.t.now c.args.key.now c.is_listed.ensures c.if-not-is_listed.true
 
 pub put-requires : goal.put-requires
 put-requires c =
@@ -20,4 +20,3 @@ pub returns : goal.returns
 returns c =
     turn-done c.args.t.now c.args.key.now c.is_listed.ensures c.if-not-is_listed.false
     (put-after (as_lent c.requires.sound_with) c.current_slot-slot.ensures c.right_word.ensures c.put.ensures).table
-    c.done.ensures

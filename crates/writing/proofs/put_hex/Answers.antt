@@ -1,14 +1,10 @@
 -- The invariant is `Hexed`: the first i bytes are written.
-use Rattle.writing.proofs.Texts.{hexed-none, hexed-more, hexed-all}
-use borrow.Author.Rules.{rules}
+use Rattle.std.proofs.Common.{rules}
+use Rattle.writing.proofs.Texts.{hexed-none, hexed-more}
 use Rattle.writing.proofs.put_hex.Goals as goal
 
-pub loop-i-init : goal.loop-i-init
-loop-i-init c = hexed-none _ _ _ c.requires
+pub loop-byte-init : goal.loop-byte-init
+loop-byte-init c = hexed-none _ _ _ c.requires
 
-pub loop-i-preserved : goal.loop-i-preserved
-loop-i-preserved c =
-    hexed-more c.loop-i.invariant (search rules) (search rules) c.put_byte-end.ensures
-
-pub returns : goal.returns
-returns c = hexed-all c.loop-i.invariant (search rules)
+pub loop-byte-preserved : goal.loop-byte-preserved
+loop-byte-preserved c = hexed-more c.loop-byte.invariant (search rules) (search rules) c.put_byte-end.ensures

@@ -3,8 +3,8 @@ use borrow.Author.Tests.{le-leb, lt-leb}
 use Rattle.rules.proofs.Source.{is-type}
 use Rattle.rules.proofs.Kind.known.Goals as goal
 
-pub returns-then-type_number : goal.returns-then-type_number
-returns-then-type_number c = simp (is-type, lt-leb 3 _ c.if-type_number.true)
+pub returns-then-self : goal.returns-then-self
+returns-then-self c = simp (is-type, le-leb 3 _ c.if-self.true)
 
-pub returns : goal.returns
-returns c = simp (is-type, le-leb 3 _ c.if-type_number.false)
+pub returns-else-self : goal.returns-else-self
+returns-else-self c = simp (is-type, lt-leb 3 _ c.if-self.false)

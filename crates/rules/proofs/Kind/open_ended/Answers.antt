@@ -1,10 +1,10 @@
 -- The open-ended types are the numbers 3 and 4: the code's two tests are those of `is-open-ended`.
-use borrow.Author.Tests.{eq-eqb, ne_eqb}
+use Rattle.std.proofs.Common.{refl}
 use Rattle.rules.proofs.Source.{is-open-ended}
 use Rattle.rules.proofs.Kind.open_ended.Goals as goal
 
-pub returns-then-type_number : goal.returns-then-type_number
-returns-then-type_number c = simp (is-open-ended, eq-eqb _ 3 c.if-type_number.true)
+pub returns-then-eq : goal.returns-then-eq
+returns-then-eq c = rw (is-open-ended, ← c.eq.ensures, c.if-eq.true) refl
 
-pub returns : goal.returns
-returns c = simp (is-open-ended, ne_eqb _ 3 c.if-type_number.false)
+pub returns-else-eq : goal.returns-else-eq
+returns-else-eq c = rw (is-open-ended, ← c.eq.ensures, c.if-eq.false, ← c.eq-else-eq.ensures) refl

@@ -1,29 +1,29 @@
 -- Each type's entry of the array is its count in the rules, which antt computes. A number that is none of the five names no type.
+use Rattle.std.proofs.Common.{rules}
 use Rattle.rules.specs.Capabilities.{number, kind_among, kind_of, word_count}
 use Rattle.rules.specs.Source.{words_of}
 use Rattle.rules.proofs.Source.{has_words, has-none}
 use Rattle.rules.proofs.Kind.words.Goals as goal
 
-pub returns-then-type_number : goal.returns-then-type_number
+pub returns-in-CALL : goal.returns-in-CALL
 unfolding words_of kind_of kind_among number word_count
-returns-then-type_number c = has_words 3 c.if-type_number.true
+returns-in-CALL c = has_words 3 (search rules)
 
-pub returns-then-type_number-2 : goal.returns-then-type_number-2
+pub returns-in-REGISTER : goal.returns-in-REGISTER
 unfolding words_of kind_of kind_among number word_count
-returns-then-type_number-2 c = has_words 4 c.if-type_number-2.true
+returns-in-REGISTER c = has_words 4 (search rules)
 
-pub returns-then-type_number-3 : goal.returns-then-type_number-3
+pub returns-in-DELETE : goal.returns-in-DELETE
 unfolding words_of kind_of kind_among number word_count
-returns-then-type_number-3 c = has_words 5 c.if-type_number-3.true
+returns-in-DELETE c = has_words 5 (search rules)
 
-pub returns-then-type_number-4 : goal.returns-then-type_number-4
+pub returns-in-SET_ENTRY : goal.returns-in-SET_ENTRY
 unfolding words_of kind_of kind_among number word_count
-returns-then-type_number-4 c = has_words 6 c.if-type_number-4.true
+returns-in-SET_ENTRY c = has_words 6 (search rules)
 
-pub returns-then-type_number-5 : goal.returns-then-type_number-5
+pub returns-in-WRITE : goal.returns-in-WRITE
 unfolding words_of kind_of kind_among number word_count
-returns-then-type_number-5 c = has_words 7 c.if-type_number-5.true
+returns-in-WRITE c = has_words 7 (search rules)
 
-pub returns : goal.returns
-returns c =
-    has-none _ c.if-type_number.false c.if-type_number-2.false c.if-type_number-3.false c.if-type_number-4.false c.if-type_number-5.false
+pub returns-in_default : goal.returns-in_default
+returns-in_default c = has-none _ (search rules) (search rules) (search rules) (search rules) (search rules)
