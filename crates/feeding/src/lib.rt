@@ -50,7 +50,7 @@ fn line_length(rest: &[u8]) -> Option<usize>
     rest.iter().position(|byte| *byte == b'\n')
 }
 
-// Answers the whole lines of a piece, while there is room.
+// Answers the whole lines of a piece, while there is room: the loop goes on by what is left of both, and by no index.
 pub fn feed(t: &mut [u8], piece: &[u8], long: bool, out: &mut [u8]) -> Fed
     ensures { Feeds t.old long piece.now out.old result out.new t.new }
 {

@@ -11,7 +11,7 @@ use rules::Kind;
 // The number of Null, which is no type of capability.
 const NULL: u8 = 0;
 
-// What a message's type names.
+// What a message's type names: three cases in the rules' words, so neither an Option nor a Result.
 #[derive(Clone, Copy, Debug, PartialEq, Eq)]
 pub enum Named {
     Null,
@@ -61,5 +61,5 @@ pub fn overlong(kind: Kind, d: &[u8]) -> bool
 pub fn payload_of(m: &[u8]) -> &[u8]
     ensures { result.now ≡ payload_of (data_of m.now) }
 {
-    m.get(1 + rules::PAYLOAD_AT..).unwrap_or_default()
+    m.get(rules::MESSAGE_PAYLOAD_AT..).unwrap_or_default()
 }

@@ -12,7 +12,7 @@ use std::io::{Read, Write};
 const BUFFER: usize = rules::GREATEST_TABLE;
 
 // The input's bytes from `start` to `end` are still to be answered. `long` says that they begin within a line that is too long already,
-// `more` that the input may not have ended.
+// `more` that the input may not have ended: each of the two whatever the other is.
 #[derive(Clone, Copy)]
 struct State {
     start: usize,

@@ -1,5 +1,6 @@
 -- The parts of a printed line: each field after its space, and the flag before the fields.
 use Prim.Native.Nat.{ℕ, ◌+◌, ◌*◌, ◌/◌, ◌%◌, ◌≤◌, ◌<◌}
+use native.Mathlib.Nat.{div-add-mod'}
 use native.Mathlib.Omega.{arith}
 use mathlib.Core.Path.{◌≡◌, refl}
 use mathlib.Core.List.{[], ◌∷◌}
@@ -7,7 +8,7 @@ use lib.ListN.{length}
 use Rattle.rules.specs.Words.{Bytes}
 use Rattle.rules.specs.Answers.{code_bytes, Answer, refused, done, called, registered, looked}
 use Rattle.rules.specs.Program.{space, hex, decimal, spaced, printed}
-use Rattle.rules.specs.Source.{reply_of, refused_reply}
+use Rattle.rules.specs.Source.{reply_of}
 use Rattle.rules.proofs.Source.{one_byte, two_bytes}
 use Rattle.writing.specs.Wrote.{Wrote}
 use Rattle.writing.proofs.Texts.{wrote-both, hex-length}
@@ -38,12 +39,12 @@ module _ {o o' o'' : Bytes} {at middle end : ℕ} (w : Wrote o at (space ∷ [])
   pub wrote-number : (n : ℕ) → n < 18446744073709551616 → Wrote o' middle (decimal n) end o'' → Wrote o at (space ∷ decimal n) end o'' × (end ≤ at + 21)
   wrote-number n h v = (wrote-both w v, omega (arith, w.ends, v.ends, decimal-fits n h))
 
-  pub wrote-code-two : (n : ℕ) {o''' : Bytes} {last : ℕ} → 256 ≤ n → Wrote o' middle (hex (n / 256 ∷ [])) end o''
-      → Wrote o'' end (hex (n % 256 ∷ [])) last o''' → Wrote o at (spaced (code_bytes n)) last o''' × (last ≤ at + 5)
-  unfolding spaced hex
-  wrote-code-two n h v u =
-      let all = wrote-both w (wrote-both v u) in
-      (rw (two_bytes n h) all, omega (arith, w.ends, v.ends, u.ends))
+  pub wrote-code-two : (n : ℕ) → 256 ≤ n → n < 65536 → Wrote o' middle (hex (n / 256 % 256 ∷ n % 256 ∷ [])) end o''
+      → Wrote o at (spaced (code_bytes n)) end o'' × (end ≤ at + 5)
+  unfolding spaced
+  wrote-code-two n h f v =
+      let high : n / 256 % 256 ≡ n / 256 = omega (arith, div-add-mod' n 256, div-add-mod' (n / 256) 256) in
+      (rw (two_bytes n h, ← high) (wrote-both w v), omega (arith, w.ends, v.ends, hex-length (n / 256 % 256 ∷ n % 256 ∷ [])))
 
 -- what is printed for an answer's reply is what the rules print for the answer
 unfoldable pub payload_in : Answer → Bytes

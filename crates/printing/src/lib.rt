@@ -32,10 +32,10 @@ fn put_code(out: &mut [u8], at: usize, code: u16) -> usize
 {
     let first = writing::put(out, at, b' ');
     if code < 256 {
-        return writing::put_byte(out, first, code as u8);
+        writing::put_byte(out, first, code as u8)
+    } else {
+        writing::put_hex(out, first, &code.to_be_bytes())
     }
-    let second = writing::put_byte(out, first, (code / 256) as u8);
-    writing::put_byte(out, second, (code % 256) as u8)
 }
 
 // A number in decimal after a space.

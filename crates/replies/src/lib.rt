@@ -8,9 +8,6 @@ ghost use Rattle.replies.specs.Parts.{struct_of};
 
 use rules::Success;
 
-// Where in a message Call's payload begins: its data follows the type byte.
-const PAYLOAD_AT: usize = 1 + rules::PAYLOAD_AT;
-
 // What a call answers. A field that the answer does not name is zero. Of the code the first `code_len` bytes count; the payload is
 // the `payload_len` bytes of the message from `payload_at` on.
 #[repr(C)]
@@ -63,7 +60,7 @@ pub fn laid_out(reply: rules::Reply, payload_len: usize) -> Reply
     match reply {
         Ok(Success::Done) => DONE,
         Ok(Success::Called(address)) => Reply {
-            payload_at: PAYLOAD_AT,
+            payload_at: rules::MESSAGE_PAYLOAD_AT,
             payload_len,
             address,
             ..DONE

@@ -34,6 +34,9 @@ pub const GREATEST_MESSAGE: usize = 65536;
 // Where in a message's data Call's payload begins.
 pub const PAYLOAD_AT: usize = 64;
 
+// The same in the message, whose data follows the type byte.
+pub const MESSAGE_PAYLOAD_AT: usize = 1 + PAYLOAD_AT;
+
 // Where in a message's data Register's capabilities begin.
 pub const SERIES_AT: usize = 96;
 
@@ -43,7 +46,8 @@ pub const GREATEST_CODE: usize = 24576;
 // The length of a list that takes no more procedures.
 pub const GREATEST_LIST: usize = 16777215;
 
-// The type of a capability or a message, by its number. (The language keeps the word `type` for itself.)
+// The type of a capability or a message, by its number: document 01 wants the types as constants of theirs. (The language keeps the
+// word `type` for itself.)
 #[derive(Clone, Copy, Debug, PartialEq, Eq)]
 pub struct Kind(pub u8);
 
@@ -79,14 +83,14 @@ impl Kind {
         Kind::WRITE,
     ];
 
-    // Whether the number names a type.
+    // Whether the number names a type: a range of numbers, since types have no order.
     pub fn known(self) -> bool
         ensures { result ≡ is_type self.0 }
     {
         Kind::CALL.0 <= self.0 && self.0 <= Kind::WRITE.0
     }
 
-    // How many words a capability of the type has; 0 if the number names no type. Every record of a capability asks, so each type is
+    // How many words a capability of the type has; 0, and no Option, if the number names no type (`HasWords`). Every record of a capability asks, so each type is
     // asked for by name: where the index is known, no array is laid out.
     pub fn words(self) -> usize
         ensures { HasWords self.0 result }
@@ -101,7 +105,7 @@ impl Kind {
         }
     }
 
-    // How many bytes of data a message of the type has at least; 0 if the number names no type.
+    // How many bytes of data a message of the type has at least; 0, and no Option, if the number names no type (`minimum_of`).
     pub fn minimum_data(self) -> usize
         ensures { result ≡ minimum_of self.0 }
     {
@@ -121,7 +125,7 @@ impl Kind {
     }
 }
 
-// A refusal's code: its one or two bytes, read as one number. The comments are the rows of document 01's table of codes;
+// A refusal's code: its one or two bytes, read as one number. Document 01 wants the codes as constants of their type. The comments are the rows of document 01's table of codes;
 // that of 66 eb is of document 02.
 #[derive(Clone, Copy, Debug, PartialEq, Eq)]
 pub struct Refusal(pub u16);

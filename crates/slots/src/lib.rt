@@ -79,7 +79,7 @@ pub fn place_slot(n: usize) -> [u8; rules::WORD_BYTES]
     list_slot(&middle)
 }
 
-// The one slot of a region whose middle and end are zero.
+// The one slot of a region whose middle and end are zero. Each such slot has a function of the rules' name below.
 fn single_slot(region: u8) -> [u8; rules::WORD_BYTES]
     ensures { KeyOf (slot region 0 0) result }
 {

@@ -73,9 +73,6 @@ module _ {t procedure : Bytes} {used : ℕ} (u : Unlistable t used procedure) wh
           cleared : Stored (length t) t_cleared used_cleared (put (put (last_moved s freed) length_slot (places - 1)) (place_slot places) 0)
           cleared = put-after lowered c zero_word g
 
-          pub remove-ready : (record_form t_cleared ≡ true) × ((used_cleared ≡ length (store t_cleared)) × (length procedure ≡ 24))
-          remove-ready = (cleared.form, (counted cleared, u.key))
-
           pub unlisted : {t' : Bytes} {used' : ℕ} → Stored (length t_cleared) t' used' (without_procedure p (store t_cleared))
               → Stored (length t) t' used' (after_delete s p)
           unfolding after_delete puts last_moved

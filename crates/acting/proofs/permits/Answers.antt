@@ -28,6 +28,3 @@ returns-then-index_in_range c k q =
     covers-chosen c.requires.sound_with c.current-holder.ensures c.key_part.ensures c.args.d.now k
     (sym c.if-index_in_range.true ∙ c.index_in_range.ensures k q)
     c.index.ensures c.small-i.ensures q c.capability-chosen.ensures (num c.args.x.now) (c.covers.ensures k q)
-
-pub returns-else-index_in_range : goal.returns-else-index_in_range
-returns-else-index_in_range c k q = rw (← sym c.if-index_in_range.false ∙ c.index_in_range.ensures k q)

@@ -1,6 +1,6 @@
 -- Each return is a place in the row.
 -- The returns in order: 33; 66 e2; 66 33; 66 e3; done.
-use mathlib.Core.Path.{refl, sym, ◌∙◌}
+use Rattle.std.proofs.Common.{refl}
 use Rattle.rules.specs.Capabilities.{delete, number}
 use Rattle.rules.specs.Answers.{code_number}
 use Rattle.acting.proofs.Permission.{acts-on-key}
@@ -38,14 +38,6 @@ returns-then-names_current c =
     c.if-not-permits.false c.names_entry.ensures c.if-names_entry.false
     c.key_of-procedure.ensures c.is_listed.ensures c.if-not-is_listed.false
     c.names_current.ensures c.if-names_current.true
-
-pub unlist-requires : goal.unlist-requires
-unlist-requires c =
-    record {
-      table = c.requires.sound_with;
-      key = c.key_of-procedure.ensures.size;
-      is_listed = sym c.is_listed.ensures ∙ c.if-not-is_listed.false;
-    }
 
 pub returns : goal.returns
 unfolding number

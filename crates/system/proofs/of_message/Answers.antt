@@ -1,8 +1,6 @@
 -- What the type names, then the row before the type's own.
 -- The returns in order: 66 e0; 66 eb; 66 e6; aa; 66 eb of Null; Null; the row of the type.
-use mathlib.Core.Path.{refl, sym, ◌∙◌}
-use native.Mathlib.Omega.{arith}
-use borrow.Author.Tests.{ltb-false}
+use Rattle.std.proofs.Common.{refl, arith}
 use Rattle.rules.specs.Answers.{code_number}
 use Rattle.system.proofs.MessageRow.{names-null, names-unknown, names-type, null-refused, null-done, unknown-refused, short-refused, overlong-refused, leading-refused, acceptable, own_row, data-short}
 use Rattle.system.proofs.of_message.Goals as goal
@@ -13,10 +11,6 @@ returns-then-short c =
     let type = names-type _ c.in-Of.ensures refl in
     rw (← c.data_of-d.ensures)
     (short-refused _ _ _ _ _ type c.short.ensures c.if-short.true)
-
-pub leading-leading-requires : goal.leading-leading-requires
-leading-leading-requires c =
-    ltb-false _ _ (sym c.short.ensures ∙ c.if-short.false)
 
 pub returns-then-overlong : goal.returns-then-overlong
 unfolding code_number

@@ -1,7 +1,7 @@
 -- Each step's promise is the next one's need: the last key moves, the length is lowered, the last place and the procedure's
 -- records go. None of it lengthens the table.
 use native.Mathlib.Omega.{arith}
-use Rattle.unlisting.proofs.Unlisting.{movable, some-place, length-ready, last-ready, remove-ready, unlisted}
+use Rattle.unlisting.proofs.Unlisting.{movable, some-place, length-ready, last-ready, unlisted}
 use Rattle.unlisting.proofs.unlist.Goals as goal
 
 pub move_last-moved-requires : goal.move_last-moved-requires
@@ -24,13 +24,6 @@ put-cleared-requires c =
     c.length_slot-length_slot.ensures c.number_word-shorter.ensures c.put-lowered.ensures
     c.place_slot-last_place.ensures in
     record { t_value = r.0; used_value = r.1.0; key_len = r.1.1.0; value_len_bound = r.1.1.1 }
-
-pub remove_procedure-requires : goal.remove_procedure-requires
-remove_procedure-requires c =
-    let r = remove-ready c.requires c.list_length-places.ensures c.place_of-freed.ensures c.move_last-moved.ensures
-    c.length_slot-length_slot.ensures c.number_word-shorter.ensures c.put-lowered.ensures
-    c.place_slot-last_place.ensures c.put-cleared.ensures in
-    record { t_value = r.0; used_value = r.1.0; procedure_len = r.1.1 }
 
 pub returns : goal.returns
 returns c =
