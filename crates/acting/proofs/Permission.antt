@@ -1,12 +1,6 @@
 -- For callers: what `permits` asks of the key or address that a message names, and what its answer and that of `is_listed` say of a
 -- row. The two checks for the index and for covering have one code, so `permits` decides both.
-use Prim.Native.Nat.{ℕ, ◌*◌, ◌^◌, ◌≤◌}
-use native.Mathlib.Omega.{arith}
-use mathlib.Core.Path.{◌≡◌, refl, sym, ap, ◌∙◌}
-use mathlib.Core.List.{List, ◌∷◌}
-use mathlib.Core.Bool.{Bool, true, false, not, ◌&&◌}
-use lib.ListN.{length}
-use borrow.Author.Tests.{leb-false}
+use Rattle.std.proofs.Common.{ℕ, ◌*◌, ◌^◌, ◌≤◌, arith, ◌≡◌, refl, sym, ap, ◌∙◌, List, ◌∷◌, Bool, true, false, not, ◌&&◌, length, leb-false}
 use Rattle.rules.specs.Words.{Bytes, word_bytes, key_bytes, num}
 use Rattle.rules.specs.Table.{store}
 use Rattle.rules.specs.Capabilities.{Kind, write, number}
@@ -27,13 +21,12 @@ acts-on-key kind q {d} {x} n h =
       kind = kind;
       names = q;
       long = omega (arith, n.long);
-      word = h.size;
       key = λ other. rw h.number (leb-false (256 ^ key_bytes) (key_word d) n.fits);
     }
 
 pub acts-on-address : {n : ℕ} → number write ≡ n → {d x : Bytes} → 3 * word_bytes ≤ length d → Holds word_bytes x (write_address d) → ActsOn n d x
 acts-on-address q l h =
-    record { kind = write; names = q; long = omega (arith, l); word = h.size; key = λ other. absurd (other refl) }
+    record { kind = write; names = q; long = omega (arith, l); key = λ other. absurd (other refl) }
 
 -- whether a key is listed, as the code found it of the bytes that hold the key
 pub listed-judged : (t : Bytes) {key : Bytes} {y : ℕ} → Holds key_bytes key y → {l : Bool} → l ≡ listed (store t) (num key)

@@ -11,7 +11,6 @@ pub record ActsOn (n : ℕ) (d x : Bytes) : Type 0 where
   pub kind : Kind
   pub names : number kind ≡ n
   pub long : word_bytes ≤ length d
-  pub word : length x ≡ word_bytes
   pub key : kind ≢ write → num x < 256 ^ key_bytes
 
 -- p says whether, of the type that n names, the capability that the data's index names is held and covers x

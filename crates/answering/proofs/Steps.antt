@@ -1,13 +1,7 @@
 -- A line's answer is one step of the rules' `answers_from`; and the reply, the payload and the decoded message give that answer.
-use Rattle.std.proofs.Common.{Ok, Err}
-use Rattle.std.specs.Prelude.{Option as Said, Some, None}
-use Prim.Native.Nat.{ℕ, ◌-◌, ◌≤◌}
-use native.Mathlib.Nat.{sub-zero}
-use native.Mathlib.Omega.{arith}
-use mathlib.Core.Path.{◌≡◌, refl, sym, ap, ◌∙◌}
-use mathlib.Core.List.{List, [], ◌∷◌, ◌++◌, append_assoc}
-use mathlib.Core.Option.{Option, none, some}
-use lib.ListN.{length, take, length-take, length-drop}
+use Rattle.std.proofs.Common.{ℕ, ◌-◌, ◌≤◌, arith, ◌≡◌, refl, sym, ap, ◌∙◌, List, [], ◌∷◌, ◌++◌, append_assoc, length, take, length-take, length-drop, Option as Said, Some, None, Ok, Err}
+use Rattle.std.proofs.Math.Nat.{sub-zero}
+use Rattle.std.proofs.Math.Option.{Option, none, some}
 use Rattle.rules.specs.Words.{Bytes}
 use Rattle.rules.specs.Messages.{data_of, payload_of}
 use Rattle.rules.specs.Answers.{Answer, refused, done, called, registered, looked}
@@ -19,6 +13,7 @@ use Rattle.results.specs.Results.{Gives}
 use Rattle.laws.proofs.OwnPayload.{own-payload}
 use Rattle.payloads.specs.Payloads.{PayloadPromise}
 use Rattle.digits.specs.Decoding.{said, Decodes}
+use Rattle.writing.specs.declared.text.Text.{Text}
 use Rattle.writing.specs.Wrote.{Wrote}
 use Rattle.printing.specs.Printing.{printed_reply, other_line}
 use Rattle.printing.proofs.Lines.{payload_in, printed-reply}
@@ -60,8 +55,8 @@ part-short m (Ok (Looked v)) = omega arith
 pub payload-short : (m : Bytes) (r : Reply) (p : Bytes) → PayloadPromise m r p → length p ≤ length m
 payload-short m r p kept = rw kept (part-short m r)
 
-pub message-answered : (t m : Bytes) {out out' t' p : Bytes} {at end : ℕ} {r : Reply} → Gives (system_call t m program_code program_mask) r t'
-    → PayloadPromise m r p → Wrote out at (printed_reply r p ++ (line_feed ∷ [])) end out' → Answers (answer_of t (some m)) out at end out' t'
+pub message-answered : (t m : Bytes) {t' p : Bytes} {before after : Text} {r : Reply} → Gives (system_call t m program_code program_mask) r t'
+    → PayloadPromise m r p → Wrote before (printed_reply r p ++ (line_feed ∷ [])) after → Answers (answer_of t (some m)) before after t'
 unfolding answer_of
 message-answered t m {p = p} {r = r} g kept w =
     let a : Answer = (system_call t m program_code program_mask).answer in

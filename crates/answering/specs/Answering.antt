@@ -5,6 +5,7 @@ use Rattle.rules.specs.Words.{Bytes}
 use Rattle.rules.specs.Answers.{Outcome}
 use Rattle.rules.specs.Calls.{system_call}
 use Rattle.rules.specs.Program.{line_feed, greatest_line, printed, program_code, program_mask}
+use Rattle.writing.specs.declared.text.Text.{Text}
 use Rattle.writing.specs.Wrote.{Wrote}
 use Rattle.printing.specs.Printing.{other_line, line_room}
 
@@ -21,8 +22,8 @@ answer_of t (some m) =
     record { text = printed o.answer ++ (line_feed ∷ []); table = o.table }
 
 -- The promise: the answer is written, and the table is the one after it.
-pub record Answers (a : Answered) (out : Bytes) (at end : ℕ) (out_after table_after : Bytes) : Type 0 where
-  pub wrote : Wrote out at a.text end out_after
+pub record Answers (a : Answered) (before after : Text) (table_after : Bytes) : Type 0 where
+  pub wrote : Wrote before a.text after
   pub changed : table_after ≡ a.table
 
 -- room for any line's message, which has half as many bytes as its line has digits; and for its answer, since no payload is longer

@@ -1,11 +1,6 @@
 -- How many records a registration adds, for a key that is not listed in a sound store. Of its records only the list's length is
 -- present before; the others have different keys, and each whose value is not zero is one record more.
-use Prim.Native.Nat.{ℕ, suc, ◌+◌, ◌-◌, ◌^◌}
-use native.Mathlib.Omega.{arith}
-use mathlib.Core.Path.{◌≡◌, sym, ap, ◌∙◌}
-use mathlib.Core.List.{List, [], ◌∷◌}
-use mathlib.Core.Bool.{false, true≢false}
-use lib.ListN.{length}
+use Rattle.std.proofs.Common.{ℕ, suc, ◌+◌, ◌-◌, ◌^◌, arith, ◌≡◌, sym, ap, ◌∙◌, List, [], ◌∷◌, false, true≢false, length}
 use Rattle.rules.specs.Table.{Store, Record, ◌holds◌, get, put, puts, Ascending}
 use Rattle.rules.specs.KernelStorage.{slot, address_slot, length_slot, place_slot}
 use Rattle.rules.specs.Capabilities.{kinds}

@@ -1,9 +1,5 @@
 -- Records whose keys are absent and stand only once: each whose value is not zero is one record more.
-use Prim.Native.Nat.{ℕ, zero, suc, ◌+◌}
-use native.Mathlib.Omega.{arith}
-use mathlib.Core.Path.{◌≡◌, sym, ◌∙◌}
-use mathlib.Core.List.{List, [], ◌∷◌}
-use lib.ListN.{length}
+use Rattle.std.proofs.Common.{ℕ, zero, suc, ◌+◌, arith, ◌≡◌, sym, ◌∙◌, List, [], ◌∷◌, length}
 use Rattle.rules.specs.Words.{Every}
 use Rattle.rules.specs.Table.{Store, Record, get, put, puts, record_before, Ascending}
 use Rattle.laws.proofs.Stores.{put-ascending, get-put-other, put-absent, Misses}

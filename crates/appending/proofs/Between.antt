@@ -1,14 +1,8 @@
 -- The records of a new procedure, put where room was made for them. The table is cut where the first of them would stand: none of
 -- the procedure's is there, so those behind the cut have higher keys. Up to the end of the room it is itself a table, of those before
 -- the cut; the new records fill it, and what follows is as it was.
-use Prim.Native.Nat.{ℕ, zero, suc, ◌+◌, ◌*◌, ◌-◌, ◌^◌, ◌≤◌, ◌<◌}
-use native.Mathlib.Omega.{arith}
-use mathlib.Core.Path.{◌≡◌, sym, ap, ◌∙◌}
-use mathlib.Core.List.{List, [], ◌∷◌, ◌++◌, append_assoc, append-nil}
-use lib.ListN.{length, take, drop, replicate, length-append, length-drop, take-append-drop}
-use lib.Seq.{take_at, drop_at, length-take-le}
-use borrow.Rule.Slice.PartMut.{post_of}
-use Rattle.rules.specs.Words.{Bytes, num}
+use Rattle.std.proofs.Common.{ℕ, zero, suc, ◌+◌, ◌*◌, ◌-◌, ◌^◌, ◌≤◌, ◌<◌, arith, ◌≡◌, sym, ap, ◌∙◌, List, [], ◌∷◌, ◌++◌, append_assoc, append-nil, true, length, take, drop, replicate, length-append, length-drop, take-append-drop, take_at, drop_at, length-take-le}
+use Rattle.rules.specs.Words.{Bytes}
 use Rattle.rules.specs.Table.{Record, Store, get, puts, room, store, record_form, record_bytes, bytes, Ascending, Sized}
 use Rattle.rules.specs.KernelStorage.{address_slot}
 use Rattle.rules.specs.Messages.{requests}
@@ -23,9 +17,9 @@ use Rattle.laws.proofs.TableRecords.{Formed, formed, records-append, bytes-forme
 use Rattle.finding.specs.Finding.{keys_below}
 use Rattle.finding.proofs.Places.{below_length, Standing, present, absent, standing}
 use Rattle.gaps.specs.Gaps.{opened}
-use Rattle.storing.specs.Storing.{Stored}
+use Rattle.storing.specs.declared.table.Table.{Table}
+use Rattle.storing.proofs.Stored.{Stored}
 use Rattle.storing.proofs.Cuts.{opened-is}
-use Rattle.storing.proofs.Chain.{words}
 use Rattle.storing.proofs.Puts.{Words, held}
 use Rattle.counting.specs.Counting.{non_zero}
 use Rattle.counting.proofs.OneValue.{taken-one}
@@ -40,13 +34,13 @@ ascending-take low s zero a = tt
 ascending-take low [] (suc i) a = tt
 ascending-take low (r ∷ s) (suc i) a = (a.0, a.1, ascending-take (suc r.key) s i a.2)
 
-module _ {t : Bytes} {used place : ℕ} {procedure address d : Bytes} {n : ℕ} (need : NewNeeds t used place procedure address d n)
-    {i : ℕ} (at : i ≡ keys_below (store t) (address_slot (num procedure))) where
-  abbrev p : ℕ
-  p = num procedure
+module _ (table : Table) {place p a : ℕ} {d : Bytes} {n : ℕ} (need : NewNeeds table.bytes.now place p a d n)
+    {i : ℕ} (at : i ≡ keys_below (store table.bytes.now) (address_slot p)) where
+  abbrev t : Bytes
+  t = table.bytes.now
 
   abbrev rs : List Record
-  rs = procedure_records place p (num address) (requests d)
+  rs = procedure_records place p a (requests d)
 
   abbrev s : Store
   s = store t
@@ -58,24 +52,24 @@ module _ {t : Bytes} {used place : ℕ} {procedure address d : Bytes} {n : ℕ} 
   behind = drop i s
 
   f : Formed t
-  f = formed t need.form
+  f = formed t table.form
 
   -- the address and the index are not zero
   count : non_zero rs ≡ 2 + n
   unfolding non_zero
   count =
-      omega (arith, taken-one (num address) need.address_non_zero, taken-one place need.place_non_zero, need.counted.is p)
+      omega (arith, taken-one a need.address_non_zero, taken-one place need.place_non_zero, need.counted.is p)
 
   rises : Rising (address_slot p) (address_slot p + 2 ^ 24) rs
-  rises = procedure-rises place p (num address) (requests d) (requests-storable d need.few)
+  rises = procedure-rises place p a (requests d) (requests-storable d need.few)
 
   inside : i ≤ length s
   inside = omega (arith, at, below_length s (address_slot p))
 
-  pub room_fits : (i ≤ used) × (64 * used + 64 * (2 + n) ≤ length t)
-  room_fits = omega (arith, inside, need.count, need.fits, f.long)
+  pub room_fits : (i ≤ table.used) × (64 * table.used + 64 * (2 + n) ≤ length t)
+  room_fits = omega (arith, inside, table.count, need.fits, f.long)
 
-  pub room_small : (i + (2 + n) ≤ 1024) × (used + (2 + n) ≤ 1024)
+  pub room_small : (i + (2 + n) ≤ 1024) × (table.used + (2 + n) ≤ 1024)
   room_small = omega (arith, room_fits, f.long, f.few)
 
   -- What stands before the cut, and what behind it.
@@ -113,8 +107,8 @@ module _ {t : Bytes} {used place : ℕ} {procedure address d : Bytes} {n : ℕ} 
   added : length (puts before rs) ≡ i + (2 + n)
   added = omega (arith, puts-added before rs lower (rising-apart _ _ rs rises) none_before, many-before, count)
 
-  many-all : length (puts s rs) ≡ used + (2 + n)
-  many-all = ap length whole ∙ simp (length-append, length-drop) (omega (arith, added, inside, need.count))
+  many-all : length (puts s rs) ≡ table.used + (2 + n)
+  many-all = ap length whole ∙ simp (length-append, length-drop) (omega (arith, added, inside, table.count))
 
   -- The table up to the end of the room, and what follows.
   abbrev size : ℕ
@@ -129,58 +123,60 @@ module _ {t : Bytes} {used place : ℕ} {procedure address d : Bytes} {n : ℕ} 
   long-part : length (bytes size before) ≡ size
   long-part = length-bytes size before (omega (arith, many-before))
 
-  module _ {t₁ : Bytes} (e : t₁ ≡ opened i (2 + n) used t) where
+  module _ {t₁ : Bytes} (e : t₁ ≡ opened i (2 + n) table.used t) where
     cut : t₁ ≡ bytes size before ++ follows
     unfolding bytes
     cut =
         let gap : 64 * (2 + n) ≡ size - 64 * length before = omega (arith, many-before) in
-        e ∙ ap (λ (x : ℕ). opened i (2 + n) x t) need.count
-        ∙ opened-is t s (length t - 64 * length s) f.layout i (2 + n) inside (omega (arith, room_fits, need.count))
+        e ∙ ap (λ (x : ℕ). opened i (2 + n) x t) table.count
+        ∙ opened-is t s (length t - 64 * length s) f.layout i (2 + n) inside (omega (arith, room_fits, table.count))
         ∙ ap (λ (x : ℕ). record_bytes before ++ (replicate x 0 ++ follows)) gap
         ∙ sym (append_assoc (record_bytes before) (replicate (size - 64 * length before) 0) follows)
 
-    part-is : take (size - 0) t₁ ≡ bytes size before
-    part-is = rw cut (take_at (bytes size before) follows (size - 0) (omega (arith, long-part)))
+    part-is : take size t₁ ≡ bytes size before
+    part-is = rw cut (take_at (bytes size before) follows size long-part)
 
-    follows_is : post_of 0 (size - 0) t₁ ≡ follows
-    follows_is = rw cut (drop_at (bytes size before) follows (size - 0) (omega (arith, long-part)))
+    follows_is : drop size t₁ ≡ follows
+    follows_is = rw cut (drop_at (bytes size before) follows size long-part)
 
     pub part-within : size ≤ length t₁
     part-within = rw cut (simp length-append (omega (arith, long-part)))
 
-    stored-part : store (take (size - 0) t₁) ≡ before
+    stored-part : store (take size t₁) ≡ before
     stored-part = ap store part-is ∙ store_bytes (i + (2 + n)) before lower sized (omega (arith, many-before))
 
-    pub procedure-needs : ProcedureNeeds (take (size - 0) t₁) i place procedure address d
+    pub part-form : record_form (take size t₁) ≡ true
+    part-form = ap record_form part-is ∙ bytes-formed (i + (2 + n)) before lower sized (omega (arith, many-before)) room_small.0
+
+    pub part-count : i ≡ length (store (take size t₁))
+    part-count = sym (ap length stored-part ∙ many-before)
+
+    pub procedure-needs : ProcedureNeeds (take size t₁) place p a d
     unfolding room
     procedure-needs =
         record {
-          key = need.key;
-          word = need.word;
           well_formed = need.well_formed;
           few = need.few;
-          takes =
-              record {
-                form = ap record_form part-is ∙ bytes-formed (i + (2 + n)) before lower sized (omega (arith, many-before)) room_small.0;
-                count = sym (ap length stored-part ∙ many-before);
-                roomy = roomy-within _ _ rs (omega (arith, ap length part-is, long-part, ap length stored-part, many-before, count));
-              };
+          takes = roomy-within _ _ rs (omega (arith, ap length part-is, long-part, ap length stored-part, many-before, count));
         }
 
     -- it is full of the records before the cut and the new ones
-    module _ {part : Bytes} {r : ℕ} (full : Stored (length (take (size - 0) t₁)) part r (puts (store (take (size - 0) t₁)) rs)) where
-      full-before : Stored size part r (puts before rs)
-      full-before = let long = ap length part-is ∙ long-part in rw (long, stored-part) at full
+    module _ (full : Bytes) (long : length full ≡ length (take size t₁)) (form : record_form full ≡ true)
+        (put : store full ≡ puts (store (take size t₁)) rs) where
+      holds : store full ≡ puts before rs
+      holds = put ∙ ap (λ (x : Store). puts x rs) stored-part
 
-      filled : part ≡ record_bytes (puts before rs)
+      filled : full ≡ record_bytes (puts before rs)
       unfolding bytes
-      filled = let none : size - 64 * length (puts before rs) ≡ 0 = omega (arith, added) in full-before.table ∙ rw none (append-nil _)
+      filled =
+          let none : length full - 64 * length (puts before rs) ≡ 0 = omega (arith, long, ap length part-is, long-part, added) in
+          (rw holds at (formed full form).layout) ∙ rw none (append-nil _)
 
-      pub procedure-inserted : Stored (length t) (part ++ post_of 0 (size - 0) t₁) (used + (2 + n)) (puts s rs)
+      pub procedure-inserted : Stored (length t) (full ++ drop size t₁) (table.used + (2 + n)) (puts s rs)
       unfolding bytes
       procedure-inserted =
-          held t (part ++ post_of 0 (size - 0) t₁) (used + (2 + n)) (puts s rs) f (puts-ascending s rs f.ascends)
-          (rw whole (every_append Words (puts before rs) behind (words full-before) (every_drop Words i s f.words)))
+          held t (full ++ drop size t₁) (table.used + (2 + n)) (puts s rs) f (puts-ascending s rs f.ascends)
+          (rw whole (every_append Words (puts before rs) behind (rw holds at (formed full form).words) (every_drop Words i s f.words)))
           (omega (arith, many-all, room_fits, f.long))
           (rw (filled, follows_is) (
           sym (append_assoc (record_bytes (puts before rs)) (record_bytes behind) (replicate zeros 0))
@@ -188,4 +184,4 @@ module _ {t : Bytes} {used place : ℕ} {procedure address d : Bytes} {n : ℕ} 
           (sym many-all)
         where
           last : zeros ≡ length t - 64 * length (puts s rs)
-          last = omega (arith, many-all, need.count)
+          last = omega (arith, many-all, table.count)

@@ -1,9 +1,6 @@
 -- Room for records that are stored one after the other. Each store adds at most one record and one of value zero none;
 -- a value that is not zero takes none away, so what such stores leave is never less than what they had on the way.
-use Prim.Native.Nat.{ℕ, zero, suc, ◌+◌, ◌≤◌}
-use native.Mathlib.Omega.{arith}
-use mathlib.Core.List.{List, [], ◌∷◌}
-use lib.ListN.{length}
+use Rattle.std.proofs.Common.{ℕ, zero, suc, ◌+◌, ◌≤◌, arith, List, [], ◌∷◌, length}
 use Rattle.rules.specs.Words.{Every}
 use Rattle.rules.specs.Table.{Store, Record, put, puts}
 use Rattle.laws.proofs.Stores.{put-length, put-zero-length, put-no-shorter}

@@ -1,7 +1,7 @@
 -- What the functions that store a registration ask.
-use Rattle.std.specs.Prelude.{ℕ, suc, ◌+◌, ◌^◌, ◌≤◌, ◌<◌, ◌≡◌, List, [], ◌∷◌, true, false, length}
-use Rattle.rules.specs.Words.{Bytes, key_bytes, word_bytes, num}
-use Rattle.rules.specs.Table.{Store, Record, ◌holds◌, get, puts, room, store, record_form}
+use Rattle.std.specs.Prelude.{ℕ, suc, ◌+◌, ◌^◌, ◌≤◌, ◌<◌, ◌≡◌, List, [], ◌∷◌, false, length}
+use Rattle.rules.specs.Words.{Bytes}
+use Rattle.rules.specs.Table.{Store, Record, ◌holds◌, get, puts, room, store}
 use Rattle.rules.specs.KernelStorage.{address_slot, length_slot, place_slot}
 use Rattle.rules.specs.Procedures.{list_length}
 use Rattle.rules.specs.Messages.{series_at, requests}
@@ -20,31 +20,23 @@ NoneOf p s = (k : ℕ) → address_slot p ≤ k → k < address_slot p + 256 ^ 3
 
 -- what is asked where a procedure's records are stored in a table that has none: the room is for those that are not zero, which are
 -- its address, its index and the `needed` ones of its capabilities
-pub record NewNeeds (t : Bytes) (used place : ℕ) (procedure address d : Bytes) (needed : ℕ) : Type 0 where
-  pub form : record_form t ≡ true
-  pub count : used ≡ length (store t)
-  pub key : length procedure ≡ key_bytes
-  pub word : length address ≡ word_bytes
+pub record NewNeeds (t : Bytes) (place p a : ℕ) (d : Bytes) (needed : ℕ) : Type 0 where
   pub place_non_zero : 1 ≤ place
-  pub address_non_zero : 1 ≤ num address
+  pub address_non_zero : 1 ≤ a
   pub well_formed : WellFormedFrom d series_at
   pub few : too_many (requests d) ≡ false
-  pub none : NoneOf (num procedure) (store t)
+  pub none : NoneOf p (store t)
   pub counted : Needed d needed
   pub fits : length (store t) + 2 + needed ≤ room t
 
 -- what is asked of a registration: the room is for the records of the list too
-pub record AppendNeeds (t : Bytes) (used places : ℕ) (procedure address d : Bytes) (needed : ℕ) : Type 0 where
-  pub form : record_form t ≡ true
-  pub count : used ≡ length (store t)
+pub record AppendNeeds (t : Bytes) (places p a : ℕ) (d : Bytes) (needed : ℕ) : Type 0 where
   pub listed : places ≡ list_length (store t)
   pub short : places ≤ greatest_list
-  pub key : length procedure ≡ key_bytes
-  pub is_key : IsKey (num procedure)
-  pub word : length address ≡ word_bytes
-  pub address_non_zero : 1 ≤ num address
+  pub is_key : IsKey p
+  pub address_non_zero : 1 ≤ a
   pub well_formed : WellFormedFrom d series_at
   pub few : too_many (requests d) ≡ false
-  pub none : NoneOf (num procedure) (store t)
+  pub none : NoneOf p (store t)
   pub counted : Needed d needed
-  pub fits : length (puts (store t) (place_records (suc places) (num procedure))) + 2 + needed ≤ room t
+  pub fits : length (puts (store t) (place_records (suc places) p)) + 2 + needed ≤ room t

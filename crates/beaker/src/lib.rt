@@ -1,6 +1,6 @@
 #![tactic(auto)]
-// The library that a host links: set-up, Turn, Look and the system calls, thin over `kernel`. A host lends byte slices and gets the
-// struct of `replies` back. No function asks anything of what it is lent. `beaker_c` gives them their C names.
+// The library that a host links: set-up, Turn, Look and the system calls, thin over `kernel`. A host lends byte slices and gets
+// the struct of `replies` back. No function asks anything of what it is lent. `beaker_c` gives them their C names.
 ghost use Rattle.replies.specs.Exports.{SetUpExports, TurnExports, LookExports, SystemCallExports};
 
 pub use replies::Reply;

@@ -13,6 +13,7 @@ use Rattle.words.specs.Words.{small_limit}
 use Rattle.keys.specs.Keys.{end_first}
 use Rattle.moves.specs.Moves.{WordPart}
 use Rattle.finding.specs.Finding.{keys_below}
+use Rattle.finding.specs.declared.Records.{Records}
 use Rattle.finding.proofs.Places.{place_after, place-before}
 use Rattle.walks.specs.Walks.{pick, first_slot, front_of, kind_row, later_row, count_after, head_rows, walk, before_list, blocks_form}
 use Rattle.walks.proofs.Fronts.{first-before, front-some}
@@ -63,46 +64,66 @@ unfolding before pick
 before-next t first i h = let back : i + 1 - 1 ≡ i = omega arith in rw (lt-leb (i + 1) first (omega arith), back)
 
 -- what is left of the walk, from the i-th record on
-pub record Walking (t : Bytes) (list places first i blocks count : ℕ) : Type 0 where
-  pub laid : Laid t list places
-  pub start : first ≡ keys_below (store t) first_slot
+pub record Walking (table : Records) (list places first i blocks count : ℕ) : Type 0 where
+  pub laid : Laid table list places
+  pub start : first ≡ keys_below (store table.bytes.now) first_slot
   pub small : list + places + 4 ≤ 1024
   pub low : first ≤ i
   pub high : i ≤ list + 1
   pub few : blocks ≤ i
-  pub left : blocks_form (store t) ≡ walk (store t) blocks (before t first i) count (drop i (store t))
+  pub left : blocks_form (store table.bytes.now)
+      ≡ walk (store table.bytes.now) blocks (before table.bytes.now first i) count (drop i (store table.bytes.now))
 
-module _ {t : Bytes} {list places : ℕ} (l : Laid t list places) where
-  record_is : (i : ℕ) → i ≤ list + 3 → drop i (store t) ≡ record_at t i ∷ drop (i + 1) (store t)
-  record_is i h = (record-at t i (omega (arith, laid-count l))).here ∙ rw add-one
+module _ {table : Records} {list places : ℕ} (l : Laid table list places) where
+  record_is : (i : ℕ) → i ≤ list + 3 → drop i (store table.bytes.now)
+      ≡ record_at table.bytes.now i ∷ drop (i + 1) (store table.bytes.now)
+  record_is i h = (record-at table.bytes.now i (omega (arith, laid-count l, table.count))).here ∙ rw add-one
 
   -- keys before the list are lower than the list length; those from the list on are not
-  lower : (i : ℕ) → i < list → leb length_slot (word_at t (64 * i)) ≡ false
+  lower : (i : ℕ) → i < list → leb length_slot (word_at table.bytes.now (64 * i)) ≡ false
   unfolding before_list
-  lower i h = decide-false _ (λ q. omega (arith, place-before (store t) length_slot i _ _ (record_is i (omega arith)) (leb-true _ _ q), l.before))
+  lower i h = decide-false _ (λ q. omega (
+    arith,
+    place-before (store table.bytes.now) length_slot i _ _
+        (record_is i (omega arith)) (leb-true _ _ q),
+    l.before,
+  ))
 
-  higher : (i : ℕ) → list ≤ i → i ≤ list + 3 → leb length_slot (word_at t (64 * i)) ≡ true
+  higher : (i : ℕ) → list ≤ i → i ≤ list + 3 → leb length_slot (word_at table.bytes.now (64 * i)) ≡ true
   unfolding before_list
-  higher i h g = go (leb length_slot (word_at t (64 * i))) refl
+  higher i h g = go (leb length_slot (word_at table.bytes.now (64 * i))) refl
     where
-      go : (b : Bool) → leb length_slot (word_at t (64 * i)) ≡ b → leb length_slot (word_at t (64 * i)) ≡ true
+      go : (b : Bool) → leb length_slot (word_at table.bytes.now (64 * i)) ≡ b
+          → leb length_slot (word_at table.bytes.now (64 * i)) ≡ true
       go true q = q
       go false q =
-          absurd (omega (arith, place_after 0 (store t) length_slot i _ _ (formed t l.form).ascends (record_is i g) (leb-false _ _ q), l.before))
+          absurd (omega (
+            arith,
+            place_after 0 (store table.bytes.now) length_slot i _ _
+                (formed table.bytes.now table.form).ascends (record_is i g) (leb-false _ _ q),
+            l.before,
+          ))
 
   -- keys from the first on are keys of kernel storage, so their fronts are not zero
-  from_first : (first i : ℕ) → first ≡ keys_below (store t) first_slot → first ≤ i → i ≤ list + 3 → first_slot ≤ word_at t (64 * i)
-  from_first first i e h g = go (ltb (word_at t (64 * i)) first_slot) refl
+  from_first : (first i : ℕ) → first ≡ keys_below (store table.bytes.now) first_slot → first ≤ i → i ≤ list + 3
+      → first_slot ≤ word_at table.bytes.now (64 * i)
+  from_first first i e h g = go (ltb (word_at table.bytes.now (64 * i)) first_slot) refl
     where
-      go : (b : Bool) → ltb (word_at t (64 * i)) first_slot ≡ b → first_slot ≤ word_at t (64 * i)
-      go true q = absurd (omega (arith, place_after 0 (store t) first_slot i _ _ (formed t l.form).ascends (record_is i g) (ltb-true _ _ q)))
+      go : (b : Bool) → ltb (word_at table.bytes.now (64 * i)) first_slot ≡ b → first_slot ≤ word_at table.bytes.now (64 * i)
+      go true q = absurd (omega (
+        arith,
+        place_after 0 (store table.bytes.now) first_slot i _ _
+            (formed table.bytes.now table.form).ascends (record_is i g) (ltb-true _ _ q),
+      ))
       go false q = ltb-false _ _ q
 
-  pub walk-starts : {first : ℕ} → first ≡ keys_below (store t) first_slot → Walking t list places first first 0 0
+  pub walk-starts : {first : ℕ} → first ≡ keys_below (store table.bytes.now) first_slot
+      → Walking table list places first first 0 0
   unfolding blocks_form
   walk-starts {first} e =
       let length_from = leb-true _ _ (higher list (omega arith) (omega arith)) in
-      let inside = place-before (store t) first_slot list _ _ (record_is list (omega arith)) (le_trans first-before length_from) in
+      let inside = place-before (store table.bytes.now) first_slot list _ _ (record_is list (omega arith))
+      (le_trans first-before length_from) in
       record {
         laid = l;
         start = e;
@@ -110,26 +131,30 @@ module _ {t : Bytes} {list places : ℕ} (l : Laid t list places) where
         low = omega arith;
         high = omega arith;
         few = omega arith;
-        left = rw (before-first t first, e) refl;
+        left = rw (before-first table.bytes.now first, e) refl;
       }
 
 -- one turn, at the i-th record
-module _ {t : Bytes} {list places first i blocks count : ℕ} (g : Walking t list places first i blocks count) (h : i < list) where
-  pub has-record : HasRecord t i
+module _ {table : Records} {list places first i blocks count : ℕ} (g : Walking table list places first i blocks count)
+    (h : i < list) where
+  pub has-record : HasRecord table.bytes.now i
   has-record = record { inside = omega (arith, laid-within g.laid); small = omega (arith, g.small) }
 
-  same-front : continues_at t first i ≡ eqb (front_of (word_at t (64 * i))) (front_of (before t first i))
+  same-front : continues_at table.bytes.now first i
+      ≡ eqb (front_of (word_at table.bytes.now (64 * i))) (front_of (before table.bytes.now first i))
   unfolding continues_at before pick
   same-front = go (leb i first) refl
     where
-      go : (b : Bool) → leb i first ≡ b → continues_at t first i ≡ eqb (front_of (word_at t (64 * i))) (front_of (before t first i))
+      go : (b : Bool) → leb i first ≡ b → continues_at table.bytes.now first i
+          ≡ eqb (front_of (word_at table.bytes.now (64 * i))) (front_of (before table.bytes.now first i))
       go true q =
           let from = from_first g.laid first i g.start g.low (omega arith) in
-          rw q (sym (ne_eqb _ _ (front-some (word_at t (64 * i)) from)))
+          rw q (sym (ne_eqb _ _ (front-some (word_at table.bytes.now (64 * i)) from)))
       go false q = rw q refl
 
-  module _ {a : Bool} (e : a ≡ continues_at t first i) where
-    front-is : {b : Bool} → a ≡ b → eqb (front_of (word_at t (64 * i))) (front_of (before t first i)) ≡ b
+  module _ {a : Bool} (e : a ≡ continues_at table.bytes.now first i) where
+    front-is : {b : Bool} → a ≡ b → eqb (front_of (word_at table.bytes.now (64 * i))) (front_of (before table.bytes.now first i))
+        ≡ b
     front-is q = sym same-front ∙ sym e ∙ q
 
     pub after_first : a ≡ true → first < i
@@ -137,32 +162,39 @@ module _ {t : Bytes} {list places first i blocks count : ℕ} (g : Walking t lis
     after_first q = go (leb i first) refl
       where
         go : (b : Bool) → leb i first ≡ b → first < i
-        go true z = let no : continues_at t first i ≡ false = rw z in absurd (true≢false (sym q ∙ e ∙ no))
+        go true z = let no : continues_at table.bytes.now first i ≡ false = rw z in absurd (true≢false (sym q ∙ e ∙ no))
         go false z = leb-false i first z
 
-    records : drop i (store t) ≡ record_at t i ∷ record_at t (i + 1) ∷ drop (i + 1 + 1) (store t)
-    records = record_is g.laid i (omega arith) ∙ ap (λ (s : Store). record_at t i ∷ s) (record_is g.laid (i + 1) (omega arith))
+    records : drop i (store table.bytes.now) ≡ record_at table.bytes.now i ∷ record_at table.bytes.now (i + 1) ∷ drop (i + 1 + 1)
+        (store table.bytes.now)
+    records = record_is g.laid i (omega arith) ∙ ap (λ (s : Store). record_at table.bytes.now i ∷ s)
+        (record_is g.laid (i + 1) (omega arith))
 
     -- a later record of a procedure
-    module _ (q : a ≡ true) {b : Bool} (f : b ≡ later_row (end_first (word_at t (64 * (i - 1)))) count (record_at t i)) where
-      row_is : {c : Bool} → b ≡ c → later_row (end_first (before t first i)) count (record_at t i) ≡ c
+    module _ (q : a ≡ true) {b : Bool} (f : b ≡ later_row (end_first (word_at table.bytes.now (64 * (i - 1)))) count
+        (record_at table.bytes.now i)) where
+      row_is : {c : Bool} → b ≡ c → later_row (end_first (before table.bytes.now first i)) count (record_at table.bytes.now i) ≡ c
       unfolding before pick
       row_is z = rw (lt-leb i first (after_first q)) (sym f ∙ z)
 
-      later-left : blocks_form (store t)
-          ≡ (later_row (end_first (before t first i)) count (record_at t i)
-          && walk (store t) blocks (word_at t (64 * i)) (count_after count (record_at t i)) (record_at t (i + 1) ∷ drop (i + 1 + 1) (store t)))
+      later-left : blocks_form (store table.bytes.now)
+          ≡ (later_row (end_first (before table.bytes.now first i)) count (record_at table.bytes.now i)
+          && walk (store table.bytes.now) blocks (word_at table.bytes.now (64 * i))
+          (count_after count (record_at table.bytes.now i))
+          (record_at table.bytes.now (i + 1) ∷ drop (i + 1 + 1) (store table.bytes.now)))
       later-left =
           g.left
-          ∙ ap (walk (store t) blocks (before t first i) count) records
-          ∙ walk-later (store t) blocks (before t first i) count (record_at t i) (record_at t (i + 1)) (drop (i + 1 + 1) (store t))
+          ∙ ap (walk (store table.bytes.now) blocks (before table.bytes.now first i) count) records
+          ∙ walk-later (store table.bytes.now) blocks (before table.bytes.now first i) count (record_at table.bytes.now i)
+          (record_at table.bytes.now (i + 1)) (drop (i + 1 + 1) (store table.bytes.now))
           (lower g.laid i h) (front-is q)
 
-      pub later-stops : b ≡ false → false ≡ blocks_form (store t)
+      pub later-stops : b ≡ false → false ≡ blocks_form (store table.bytes.now)
       later-stops z = sym (later-left ∙ rw (row_is z))
 
-      pub later-turns : b ≡ true → {n : ℕ} → n ≡ pick (eqb (word_at t (64 * i) % 256 ^ 2) 0) (min (word_at t (64 * i + 32)) small_limit) count
-          → Walking t list places first (i + 1) blocks n
+      pub later-turns : b ≡ true → {n : ℕ} → n ≡ pick (eqb (word_at table.bytes.now (64 * i) % 256 ^ 2) 0)
+          (min (word_at table.bytes.now (64 * i + 32)) small_limit) count
+          → Walking table list places first (i + 1) blocks n
       later-turns z {n} m =
           record {
             laid = g.laid;
@@ -174,28 +206,34 @@ module _ {t : Bytes} {list places first i blocks count : ℕ} (g : Walking t lis
             left = later-left ∙ rw (row_is z) on;
           }
         where
-          exact : n ≡ count_after count (record_at t i)
-          exact = m ∙ exact-count (end_first (before t first i)) count _ _ (row_is z)
+          exact : n ≡ count_after count (record_at table.bytes.now i)
+          exact = m ∙ exact-count (end_first (before table.bytes.now first i)) count _ _ (row_is z)
 
-          on : walk (store t) blocks (word_at t (64 * i)) (count_after count (record_at t i)) (record_at t (i + 1) ∷ drop (i + 1 + 1) (store t))
-              ≡ walk (store t) blocks (before t first (i + 1)) n (drop (i + 1) (store t))
-          on = rw (before-next t first i g.low, exact, record_is g.laid (i + 1) (omega arith)) refl
+          on : walk (store table.bytes.now) blocks (word_at table.bytes.now (64 * i))
+              (count_after count (record_at table.bytes.now i))
+              (record_at table.bytes.now (i + 1) ∷ drop (i + 1 + 1) (store table.bytes.now))
+              ≡ walk (store table.bytes.now) blocks (before table.bytes.now first (i + 1)) n
+              (drop (i + 1) (store table.bytes.now))
+          on = rw (before-next table.bytes.now first i g.low, exact, record_is g.laid (i + 1) (omega arith)) refl
 
     -- the two records that begin the next procedure
-    module _ (q : a ≡ false) {b : Bool} (f : b ≡ head_rows (store t) (record_at t i) (record_at t (i + 1))) where
-      head-left : blocks_form (store t)
-          ≡ (head_rows (store t) (record_at t i) (record_at t (i + 1))
-          && walk (store t) (suc blocks) (word_at t (64 * (i + 1))) 0 (drop (i + 1 + 1) (store t)))
+    module _ (q : a ≡ false) {b : Bool} (f : b ≡ head_rows (store table.bytes.now) (record_at table.bytes.now i)
+        (record_at table.bytes.now (i + 1))) where
+      head-left : blocks_form (store table.bytes.now)
+          ≡ (head_rows (store table.bytes.now) (record_at table.bytes.now i) (record_at table.bytes.now (i + 1))
+          && walk (store table.bytes.now) (suc blocks) (word_at table.bytes.now (64 * (i + 1))) 0
+          (drop (i + 1 + 1) (store table.bytes.now)))
       head-left =
           g.left
-          ∙ ap (walk (store t) blocks (before t first i) count) records
-          ∙ walk-head (store t) blocks (before t first i) count (record_at t i) (record_at t (i + 1)) (drop (i + 1 + 1) (store t))
+          ∙ ap (walk (store table.bytes.now) blocks (before table.bytes.now first i) count) records
+          ∙ walk-head (store table.bytes.now) blocks (before table.bytes.now first i) count (record_at table.bytes.now i)
+          (record_at table.bytes.now (i + 1)) (drop (i + 1 + 1) (store table.bytes.now))
           (lower g.laid i h) (front-is q)
 
-      pub head-stops : b ≡ false → false ≡ blocks_form (store t)
+      pub head-stops : b ≡ false → false ≡ blocks_form (store table.bytes.now)
       head-stops z = sym (head-left ∙ rw (sym f ∙ z))
 
-      pub head-turns : b ≡ true → Walking t list places first (i + 2) (blocks + 1) 0
+      pub head-turns : b ≡ true → Walking table list places first (i + 2) (blocks + 1) 0
       head-turns z =
           record {
             laid = g.laid;
@@ -213,15 +251,19 @@ module _ {t : Bytes} {list places first i blocks count : ℕ} (g : Walking t lis
           more : blocks + 1 ≡ suc blocks
           more = omega arith
 
-          on : walk (store t) (suc blocks) (word_at t (64 * (i + 1))) 0 (drop (i + 1 + 1) (store t))
-              ≡ walk (store t) (blocks + 1) (before t first (i + 2)) 0 (drop (i + 2) (store t))
-          on = rw (two, before-next t first (i + 1) (omega (arith, g.low)), more) refl
+          on : walk (store table.bytes.now) (suc blocks) (word_at table.bytes.now (64 * (i + 1))) 0
+              (drop (i + 1 + 1) (store table.bytes.now))
+              ≡ walk (store table.bytes.now) (blocks + 1) (before table.bytes.now first (i + 2)) 0
+              (drop (i + 2) (store table.bytes.now))
+          on = rw (two, before-next table.bytes.now first (i + 1) (omega (arith, g.low)), more) refl
 
 -- behind the procedures stands the list
-pub walk-done : {t : Bytes} {list places first i blocks count : ℕ} → Walking t list places first i blocks count → list ≤ i
-    → eqb blocks places ≡ blocks_form (store t)
-walk-done {t} {first = first} {i} {blocks} {count} g h =
+pub walk-done : {table : Records} {list places first i blocks count : ℕ} → Walking table list places first i blocks count
+    → list ≤ i
+    → eqb blocks places ≡ blocks_form (store table.bytes.now)
+walk-done {table} {first = first} {i} {blocks} {count} g h =
     sym (g.left
-    ∙ ap (walk (store t) blocks (before t first i) count) (record_is g.laid i (omega (arith, g.high)))
-    ∙ walk_ends (store t) blocks (before t first i) count (record_at t i) (drop (i + 1) (store t)) (higher g.laid i h (omega (arith, g.high)))
+    ∙ ap (walk (store table.bytes.now) blocks (before table.bytes.now first i) count) (record_is g.laid i (omega (arith, g.high)))
+    ∙ walk_ends (store table.bytes.now) blocks (before table.bytes.now first i) count (record_at table.bytes.now i)
+    (drop (i + 1) (store table.bytes.now)) (higher g.laid i h (omega (arith, g.high)))
     ∙ ap (eqb blocks) (sym g.laid.all))

@@ -7,16 +7,16 @@ ghost use Rattle.words.specs.Words.{small_limit};
 ghost use Rattle.keys.specs.Keys.{end_first};
 ghost use Rattle.finding.specs.Finding.{keys_below};
 ghost use Rattle.walks.specs.Walks.{pick, first_slot, later_row, blocks_form};
-ghost use Rattle.listing.specs.Listings.{Occupied};
 ghost use Rattle.lists.specs.Lists.{record_at, Laid};
 ghost use Rattle.blocks.specs.Blocks.{HasRecord, continues_at};
 
+use finding::Records;
+
 // How many records stand before kernel storage.
-fn first_record(t: &[u8], used: usize) -> usize
-    requires { Occupied t.now used }
-    ensures { result ≡ keys_below (store t.now) first_slot }
+fn first_record(table: Records) -> usize
+    ensures { result ≡ keys_below (store table.entry.bytes.now) first_slot }
 {
-    finding::keys_below(t, used, &slots::address_slot(&[0u8; rules::KEY_BYTES]))
+    table.keys_below(&slots::address_slot(&[0u8; rules::KEY_BYTES]))
 }
 
 // Whether the i-th record is of the same procedure as the record before it; the first has none before it.
@@ -31,7 +31,8 @@ fn continues(t: &[u8], first: usize, i: usize) -> bool
         )
 }
 
-// Whether the i-th record may stand behind the one before it, of the same procedure, where `count` of that one's type are counted.
+// Whether the i-th record may stand behind the one before it, of the same procedure, where `count` of that one's type are
+// counted.
 fn later(t: &[u8], i: usize, count: usize) -> bool
     requires has_record { HasRecord t.now i }
     requires le_i { 1 ≤ i }
@@ -54,12 +55,12 @@ fn counted(t: &[u8], i: usize, count: usize) -> usize
 }
 
 // Whether the records of the procedures are as they have to be, and there are as many procedures as places.
-pub fn blocks_form(t: &[u8], used: usize, list: usize, places: usize) -> bool
-    requires occupied { Occupied t.now used }
-    requires laid { Laid t.now list places }
-    ensures { result ≡ blocks_form (store t.now) }
+pub fn blocks_form(table: Records, list: usize, places: usize) -> bool
+    requires { Laid table list places }
+    ensures { result ≡ blocks_form (store table.entry.bytes.now) }
 {
-    let first = first_record(t, used);
+    let t = table.bytes;
+    let first = first_record(table);
     let mut i = first;
     let mut blocks = 0;
     let mut count = 0;
@@ -72,7 +73,7 @@ pub fn blocks_form(t: &[u8], used: usize, list: usize, places: usize) -> bool
             count = counted(t, i, count);
             i += 1;
         } else {
-            if !heads::head_rows(t, list, places, i) {
+            if !heads::head_rows(table, list, places, i) {
                 return false;
             }
             blocks += 1;

@@ -1,16 +1,12 @@
 -- Records that are stored one after the other, by several calls on one table: `Left` says which are left to store, and what the
 -- store is once they are. It gives what the next call requires; behind that call fewer are left.
-use Prim.Native.Nat.{ℕ, ◌≤◌}
-use mathlib.Core.Path.{◌≡◌, refl, sym, ap, ◌∙◌}
-use mathlib.Core.List.{List, [], ◌∷◌, ◌++◌}
-use mathlib.Core.Bool.{true}
-use lib.ListN.{length}
+use Rattle.std.proofs.Common.{ℕ, ◌≤◌, ◌≡◌, refl, sym, ap, ◌∙◌, List, [], ◌∷◌, ◌++◌, length}
 use Rattle.rules.specs.Words.{Bytes, num}
-use Rattle.rules.specs.Table.{Store, Record, ◌holds◌, put, puts, room, store, record_form}
+use Rattle.rules.specs.Table.{Store, Record, ◌holds◌, put, puts, room, store}
 use Rattle.laws.proofs.Stores.{puts-append}
-use Rattle.laws.proofs.TableRecords.{formed}
 use Rattle.words.specs.Words.{Holds}
-use Rattle.storing.specs.Storing.{Stored}
+use Rattle.storing.specs.Storing.{Became}
+use Rattle.storing.specs.declared.table.Table.{Table}
 use Rattle.capability_records.specs.CapabilityRecords.{Roomy, Takes}
 
 -- room for the first records of a list, then for the others
@@ -23,63 +19,56 @@ unfolding puts
 roomy-back rooms s [] b h = h
 roomy-back rooms s (r ∷ a) b h = roomy-back rooms (put s r.key r.value) a b h.1
 
-pub record Left (n : ℕ) (t : Bytes) (used : ℕ) (rest : List Record) (goal : Store) : Type 0 where
-  pub long : length t ≡ n
-  pub takes : Takes t used rest
-  pub reaches : puts (store t) rest ≡ goal
+pub record Left (before now : Table) (rest : List Record) (goal : Store) : Type 0 where
+  pub lent : now.bytes.ghost_name ≡ before.bytes.ghost_name
+  pub long : length now.bytes.now ≡ length before.bytes.now
+  pub takes : Takes now.bytes.now rest
+  pub reaches : puts (store now.bytes.now) rest ≡ goal
 
 -- all are left, and none is
-pub left-all : {t : Bytes} {used : ℕ} {rs : List Record} → Takes t used rs → Left (length t) t used rs (puts (store t) rs)
-left-all h = record { long = refl; takes = h; reaches = refl }
+pub left-all : {table : Table} {rs : List Record} → Takes table.bytes.now rs
+    → Left table table rs (puts (store table.bytes.now) rs)
+left-all h = record { lent = refl; long = refl; takes = h; reaches = refl }
 
-pub left-none : {n : ℕ} {t : Bytes} {used : ℕ} {goal : Store} → Left n t used [] goal → Stored n t used goal
+pub left-none : {before now : Table} {goal : Store} → Left before now [] goal → Became before now goal
 unfolding puts
-left-none {t = t} l =
-    record {
-      table = rw (← l.long, ← l.reaches) (formed t l.takes.form).layout;
-      long = l.long;
-      form = l.takes.form;
-      stored = l.reaches;
-      count = l.takes.count ∙ ap length l.reaches;
-    }
+left-none l = record { lent = l.lent; long = l.long; stored = l.reaches }
 
 -- the records a are stored next
-module _ {n : ℕ} {t : Bytes} {used : ℕ} {rest : List Record} {goal : Store} (l : Left n t used rest goal)
+module _ {before now : Table} {rest : List Record} {goal : Store} (l : Left before now rest goal)
     (a b : List Record) (e : rest ≡ a ++ b) where
-  roomy : Roomy (room t) (store t) (a ++ b)
-  roomy = rw e at l.takes.roomy
+  roomy : Roomy (room now.bytes.now) (store now.bytes.now) (a ++ b)
+  roomy = rw e at l.takes
 
-  pub left-takes : Takes t used a
-  left-takes = record { form = l.takes.form; count = l.takes.count; roomy = roomy-front (room t) (store t) a b roomy }
+  pub left-takes : Takes now.bytes.now a
+  left-takes = roomy-front (room now.bytes.now) (store now.bytes.now) a b roomy
 
-  pub left_after : {t' : Bytes} {used' : ℕ} → Stored (length t) t' used' (puts (store t) a) → Left n t' used' b goal
+  pub left_after : {later : Table} → Became now later (puts (store now.bytes.now) a) → Left before later b goal
   unfolding room
-  left_after {t'} s =
+  left_after s =
       record {
+        lent = s.lent ∙ l.lent;
         long = s.long ∙ l.long;
-        takes =
-            record {
-              form = s.form;
-              count = s.count ∙ ap length (sym s.stored);
-              roomy = rw (s.stored, s.long) (roomy-back (room t) (store t) a b roomy);
-            };
-        reaches = ap (λ x. puts x b) s.stored ∙ sym (puts-append (store t) a b) ∙ ap (puts (store t)) (sym e) ∙ l.reaches;
+        takes = rw (s.stored, s.long) (roomy-back (room now.bytes.now) (store now.bytes.now) a b roomy);
+        reaches =
+            ap (λ (x : Store). puts x b) s.stored
+            ∙ sym (puts-append (store now.bytes.now) a b)
+            ∙ ap (puts (store now.bytes.now)) (sym e)
+            ∙ l.reaches;
       }
 
 -- all that are left are stored next
-pub left-whole : {n : ℕ} {t t' : Bytes} {used used' : ℕ} {rest : List Record} {goal : Store} → Left n t used rest goal
-    → Stored (length t) t' used' (puts (store t) rest) → Stored n t' used' goal
-left-whole l s = rw (← l.long, ← l.reaches) s
+pub left-whole : {before now later : Table} {rest : List Record} {goal : Store} → Left before now rest goal
+    → Became now later (puts (store now.bytes.now) rest) → Became before later goal
+left-whole l s = record { lent = s.lent ∙ l.lent; long = s.long ∙ l.long; stored = s.stored ∙ l.reaches }
 
 -- one record is stored next, with `put`
-module _ {n : ℕ} {t : Bytes} {used k v : ℕ} {rest more : List Record} {goal : Store} {key value : Bytes}
-    (l : Left n t used rest goal) (e : rest ≡ k holds v ∷ more) (slot : Holds 32 key k) (word : Holds 32 value v) where
-  pub left-ready : (record_form t ≡ true)
-      × ((used ≡ length (store t)) × (((length key ≡ 32) × (length value ≡ 32)) × (length (put (store t) (num key) (num value)) ≤ room t)))
-  left-ready =
-      let takes = left-takes l (k holds v ∷ []) more e in
-      (takes.form, (takes.count, ((slot.size, word.size), rw (slot.number, word.number) takes.roomy.0)))
+module _ {before now : Table} {k v : ℕ} {rest more : List Record} {goal : Store} {key value : Bytes}
+    (l : Left before now rest goal) (e : rest ≡ k holds v ∷ more) (slot : Holds 32 key k) (word : Holds 32 value v) where
+  pub left-ready : length (put (store now.bytes.now) (num key) (num value)) ≤ room now.bytes.now
+  left-ready = rw (slot.number, word.number) (left-takes l (k holds v ∷ []) more e).0
 
-  pub left-put : {t' : Bytes} {used' : ℕ} → Stored (length t) t' used' (put (store t) (num key) (num value)) → Left n t' used' more goal
+  pub left-put : {later : Table} → Became now later (put (store now.bytes.now) (num key) (num value))
+      → Left before later more goal
   unfolding puts
   left-put s = left_after l (k holds v ∷ []) more e (rw (slot.number, word.number) at s)

@@ -1,5 +1,5 @@
 #![tactic(auto)]
-// Records taken out of a table.
+// Records taken out of a table, by its bytes: between the steps they have not the record form, so they are no `Table`.
 ghost use Rattle.std.specs.Prelude.{◌≡◌, ◌*◌, ◌≤◌, length};
 ghost use Rattle.rules.specs.Table.{record_size};
 ghost use Rattle.closing.specs.Closing.{closed};
@@ -13,5 +13,5 @@ pub fn close(t: &mut [u8], i: usize, j: usize, used: usize)
     let from = rules::RECORD_SIZE * j;
     let end = rules::RECORD_SIZE * used;
     t.copy_within(from..end, at);
-    moves::clear(&mut t[at + (end - from)..end]);
+    t[at + (end - from)..end].fill(0);
 }

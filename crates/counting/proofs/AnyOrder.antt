@@ -1,9 +1,6 @@
--- The records of the capabilities that are not zero, counted in another order: by the types, each has its count and the words of its
--- capabilities; and each request is of one type, so its words are counted once.
-use Prim.Native.Nat.{ℕ, suc, ◌+◌}
-use native.Mathlib.Omega.{arith}
-use mathlib.Core.Path.{◌≡◌, refl}
-use mathlib.Core.List.{List, [], ◌∷◌, ◌++◌}
+-- The records of the capabilities that are not zero, counted in another order: by the types, each has its count and the words of
+-- its capabilities; and each request is of one type, so its words are counted once.
+use Rattle.std.proofs.Common.{ℕ, suc, ◌+◌, ◌≡◌, refl, List, [], ◌∷◌, ◌++◌, arith}
 use Rattle.rules.specs.Table.{Record}
 use Rattle.rules.specs.Capabilities.{Kind, call, register, delete, set_entry, write, kinds, number, Capability}
 use Rattle.rules.specs.Messages.{Request, same_kind, requested_of}
@@ -26,7 +23,8 @@ module _ (p : ℕ) where
   words-records kind i k [] = refl
   words-records kind i k (w ∷ c) = omega (arith, words-records kind i (suc k) c)
 
-  capabilities-records : (kind : Kind) (i : ℕ) (cs : List Capability) → non_zero (capability_records p kind i cs) ≡ capabilities_taken cs
+  capabilities-records : (kind : Kind) (i : ℕ) (cs : List Capability)
+      → non_zero (capability_records p kind i cs) ≡ capabilities_taken cs
   unfolding capability_records non_zero capabilities_taken
   capabilities-records kind i [] = refl
   capabilities-records kind i (c ∷ cs) =
@@ -42,7 +40,8 @@ by_kind_taken : List Request → List Kind → ℕ
 by_kind_taken rs [] = 0
 by_kind_taken rs (kind ∷ more) = capabilities_taken (requested_of kind rs) + by_kind_taken rs more
 
-kinds-records : (p : ℕ) (rs : List Request) (ks : List Kind) → non_zero (kind_records p rs ks) ≡ kinds_taken rs ks + by_kind_taken rs ks
+kinds-records : (p : ℕ) (rs : List Request) (ks : List Kind)
+    → non_zero (kind_records p rs ks) ≡ kinds_taken rs ks + by_kind_taken rs ks
 unfolding kind_records non_zero kinds_taken by_kind_taken
 kinds-records p rs [] = refl
 kinds-records p rs (kind ∷ ks) =

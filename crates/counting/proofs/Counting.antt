@@ -1,16 +1,12 @@
--- The loops that count what is not zero: over the words of a capability, and over the requests. Each keeps that what it has counted
--- and what is left make up the whole. Last, the types that are requested.
-use Rattle.std.proofs.Common.{ℕ, suc, ◌+◌, ◌/◌, ◌≤◌, ◌<◌, ◌≡◌, refl, sym, ap, ◌∙◌, List, [], ◌∷◌, ◌++◌, length, take, drop, Bool, true, false, not}
-use Rattle.std.specs.Prelude.{cond, count_by}
-use Rattle.std.proofs.lemmas.List.{length-append, take-append-le, drop-append-le, take_all}
-use lib.ListN.{drop_of_length-le}
-use native.Mathlib.Omega.{arith}
-use lib.Dec.{eqb}
+-- The loops that count what is not zero: over the words of a capability, and over the requests. Each keeps that what it has
+-- counted and what is left make up the whole. Last, the types that are requested.
+use Rattle.std.proofs.Common.{ℕ, suc, ◌+◌, ◌/◌, ◌≤◌, ◌<◌, ◌≡◌, refl, sym, ap, ◌∙◌, List, [], ◌∷◌, ◌++◌, length, take, drop, Bool, true, false, not, eqb, cond, count_by, arith, length-append, take_all, drop_of_length-le}
+use Rattle.std.proofs.lemmas.List.{take-append-le, drop-append-le}
 use Rattle.rules.specs.Words.{Bytes, num, words}
 use Rattle.rules.specs.Capabilities.{call, register, delete, set_entry, write, kinds, word_count}
 use Rattle.rules.specs.Messages.{Request, requests, requested_of}
 use Rattle.laws.proofs.KindFacts.{word_count-small}
-use Rattle.series.specs.Series.{left, bytes_left, AllLeft, FirstLeft, requested_counts}
+use Rattle.series.specs.Series.{left, bytes_left, FirstLeft, requested_counts}
 use Rattle.series.specs.declared.Request.{Request as Found}
 use Rattle.series.specs.declared.Series.{Series}
 use Rattle.counting.specs.Counting.{taken_if, taken_by, words_taken, requests_taken, kinds_taken, WordsTaken}
@@ -25,7 +21,8 @@ first-word word rest h =
     let long = length-append word rest in
     let one : length (word ++ rest) / 32 ≡ suc (length rest / 32) = omega (arith, long, h) in
     let past : length word ≤ 32 = omega (arith, h) in
-    let front : take 32 (word ++ rest) ≡ word = take-append-le 32 word rest (omega (arith, h)) ∙ take_all 32 word (omega (arith, h)) in
+    let front : take 32 (word ++ rest) ≡ word =
+    take-append-le 32 word rest (omega (arith, h)) ∙ take_all 32 word (omega (arith, h)) in
     let back : drop 32 (word ++ rest) ≡ rest =
     drop-append-le 32 word rest (omega (arith, h)) ∙ ap (λ (x : Bytes). x ++ rest) (drop_of_length-le word past) in
     rw (one, front, back)
@@ -36,12 +33,9 @@ pub record CountingWords (bs : Bytes) (size total : ℕ) (rest : Bytes) : Type 0
   pub small : total + length rest / 32 ≤ length bs / 32
   pub left : words_taken (whole bs) ≡ total + words_taken (whole rest)
 
-pub counting-words : (bs : Bytes) → CountingWords bs 32 0 bs
-counting-words bs = record { of_words = refl; small = omega arith; left = omega arith }
-
 -- a word is counted, or passed over
-module _ {bs : Bytes} {size total : ℕ} {rest : Bytes} (w : CountingWords bs size total rest) (word more : Bytes) (e : rest ≡ word ++ more)
-    (h : length word ≡ size) {size' : ℕ} (same : size' ≡ size) where
+module _ {bs : Bytes} {size total : ℕ} {rest : Bytes} (w : CountingWords bs size total rest) (word more : Bytes)
+    (e : rest ≡ word ++ more) (h : length word ≡ size) {size' : ℕ} (same : size' ≡ size) where
   next-word : words_taken (whole rest) ≡ taken_by (num word) + words_taken (whole more)
   unfolding words_taken
   next-word = ap (λ (x : Bytes). words_taken (whole x)) e ∙ ap words_taken (first-word word more (h ∙ w.of_words))
@@ -53,15 +47,24 @@ module _ {bs : Bytes} {size total : ℕ} {rest : Bytes} (w : CountingWords bs si
   unfolding taken_by
   counted-word z =
       let one : taken_by (num word) ≡ 1 = ap taken_if (sym z) in
-      record { of_words = same ∙ w.of_words; small = omega (arith, w.small, shorter); left = omega (arith, w.left, next-word, one) }
+      record {
+        of_words = same ∙ w.of_words;
+        small = omega (arith, w.small, shorter);
+        left = omega (arith, w.left, next-word, one);
+      }
 
   pub passed-word : true ≡ eqb (num word) 0 → CountingWords bs size' total more
   unfolding taken_by
   passed-word z =
       let none : taken_by (num word) ≡ 0 = ap taken_if (sym z) in
-      record { of_words = same ∙ w.of_words; small = omega (arith, w.small, shorter); left = omega (arith, w.left, next-word, none) }
+      record {
+        of_words = same ∙ w.of_words;
+        small = omega (arith, w.small, shorter);
+        left = omega (arith, w.left, next-word, none);
+      }
 
-pub counted_words : {bs : Bytes} {size total : ℕ} {rest : Bytes} → CountingWords bs size total rest → length rest < size → WordsTaken bs total
+pub counted_words : {bs : Bytes} {size total : ℕ} {rest : Bytes} → CountingWords bs size total rest → length rest < size
+    → WordsTaken bs total
 unfolding words words_taken
 counted_words {bs} {size} {total} {rest} w h =
     let none : length rest / 32 ≡ 0 = omega (arith, w.of_words) in
@@ -72,9 +75,6 @@ counted_words {bs} {size} {total} {rest} w h =
 pub record CountingRequests (d : Bytes) (it : Series) (total : ℕ) : Type 0 where
   pub low : total + bytes_left it ≤ length d
   pub left : requests_taken (requests d) ≡ total + requests_taken (left it)
-
-pub counting-requests : {d : Bytes} {it : Series} → AllLeft d it → CountingRequests d it 0
-counting-requests a = record { low = omega (arith, a.bytes); left = let all = ap requests_taken a.all in omega (arith, all) }
 
 pub counted-request : {d : Bytes} {it more : Series} {total x : ℕ} {r : Found} → CountingRequests d it total → FirstLeft it r more
     → WordsTaken r.words.now x → CountingRequests d more (total + x)
@@ -104,7 +104,8 @@ one-count v = go (eqb v 0) refl
     go false q = rw (q, taken_by) (refl, omega arith)
 
 -- no count stands where no type's number is, so those of the types that are not zero are all that are not
-pub counted-kinds : (rs : List Request) {counts : List ℕ} {r : ℕ} → counts ≡ requested_counts rs → r ≡ count_by (λ x. not (eqb x 0)) counts
+pub counted-kinds : (rs : List Request) {counts : List ℕ} {r : ℕ} → counts ≡ requested_counts rs
+    → r ≡ count_by (λ x. not (eqb x 0)) counts
     → (r ≡ kinds_taken rs kinds) × (r ≤ 5)
 unfolding requested_counts kinds_taken
 counted-kinds rs e q =

@@ -1,8 +1,5 @@
 -- What a value takes: none if it is zero, one if it is not.
-use Prim.Native.Nat.{ℕ, ◌≤◌}
-use native.Mathlib.Omega.{arith}
-use mathlib.Core.Path.{◌≡◌, refl, ap}
-use borrow.Author.Tests.{eq-eqb, ne_eqb}
+use Rattle.std.proofs.Common.{ℕ, ◌≤◌, ◌≡◌, refl, ap, arith, eq-eqb, ne_eqb}
 use Rattle.counting.specs.Counting.{taken_if, taken_by}
 
 pub taken_none : taken_by 0 ≡ 0

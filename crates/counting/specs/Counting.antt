@@ -19,7 +19,8 @@ unfoldable pub non_zero : List Record → ℕ
 non_zero [] = 0
 non_zero (r ∷ rs) = taken_by r.value + non_zero rs
 
--- Those of the capabilities, counted in another order: the words of the requests that are not zero, and the types that are requested.
+-- Those of the capabilities, counted in another order: the words of the requests that are not zero, and the types that are
+-- requested.
 unfoldable pub words_taken : List ℕ → ℕ
 words_taken [] = 0
 words_taken (w ∷ ws) = taken_by w + words_taken ws

@@ -1,31 +1,24 @@
 -- What `decode` says of a line, and what the buffer holds after.
-use Rattle.std.specs.Prelude.{ℕ, ◌+◌, ◌*◌, ◌/◌, ◌%◌, ◌≡◌, [], ◌∷◌, ◌++◌, true, false, ◌&&◌, eqb, leb, length, take, drop, Option, Some, None}
+use Rattle.std.specs.Prelude.{ℕ, ◌+◌, ◌*◌, ◌/◌, ◌%◌, ◌≡◌, [], ◌∷◌, ◌++◌, Bool, true, false, ◌&&◌, eqb, leb, length, take, drop, Option, Some, None, is_some, unwrap_or}
 use Rattle.std.proofs.Math.Option.{Option as Maybe, none, some}
 use Rattle.rules.specs.Words.{Bytes}
 use Rattle.rules.specs.Program.{digit_of, greatest_line, message_of}
 
--- the value of a digit, and 16 of a character that is none
-unfoldable pub value_of : (character : ℕ) → ℕ
-value_of c = elim (digit_of c) [ none ↦ 16 | some d ↦ d ]
+-- the value of a digit; none of another character
+unfoldable pub value_of : (character : ℕ) → Option ℕ
+value_of c = elim (digit_of c) [ none ↦ None | some d ↦ Some d ]
 
--- the byte of two values: one that is no digit's counts as 0
-abbrev pub byte_of : (high low : ℕ) → ℕ
-byte_of h l = h % 16 * 16 + l % 16
-
--- how many of two values are no digit's
-abbrev pub others_of : (high low : ℕ) → ℕ
-others_of h l = h / 16 + l / 16
-
--- the same for each two characters of a line
+-- the byte of each two characters of a line: one that is no digit counts as 0
 unfoldable pub pairs : (line : Bytes) → Bytes
 pairs [] = []
 pairs (h ∷ []) = []
-pairs (h ∷ l ∷ rest) = byte_of (value_of h) (value_of l) ∷ pairs rest
+pairs (h ∷ l ∷ rest) = (unwrap_or (value_of h) 0 * 16 + unwrap_or (value_of l) 0) ∷ pairs rest
 
-unfoldable pub others : (line : Bytes) → ℕ
-others [] = 0
-others (h ∷ []) = 0
-others (h ∷ l ∷ rest) = others_of (value_of h) (value_of l) + others rest
+-- whether they are all digits
+unfoldable pub all_digits : (line : Bytes) → Bool
+all_digits [] = true
+all_digits (h ∷ []) = true
+all_digits (h ∷ l ∷ rest) = is_some (value_of h) && is_some (value_of l) && all_digits rest
 
 -- what is said of a line that has this message, or none: the number of its bytes
 unfoldable pub said : Maybe Bytes → Option ℕ

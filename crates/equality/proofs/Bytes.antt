@@ -1,6 +1,7 @@
 -- What the library says of all bytes, of all blocks and of `==`, as numbers.
 use Rattle.std.proofs.Common.{ℕ, zero, suc, ◌+◌, ◌*◌, ◌-◌, ◌/◌, ◌≤◌, ◌<◌, ◌≡◌, refl, sym, ap, ◌∙◌, [], List, Bool, true, false, eqb, arith, length, take, drop, get_or, replicate, take_all, length-take, length-drop}
 use mathlib.Core.Bool.{true≢false}
+use lib.ListN.{length-replicate}
 use lib.Seq.{drop-drop}
 use borrow.Author.Tests.{eqb-true, eq-eqb, ne_eqb}
 use Rattle.std.specs.Bool.{Decides, MatchBool}
@@ -12,13 +13,22 @@ use Rattle.rules.specs.Words.{Bytes, AllBytes, num, num_after}
 use Rattle.laws.proofs.Tests.{same_test}
 use Rattle.laws.proofs.Numerals.{num-suc, num-injective, num-zero, num-zeros}
 use Rattle.laws.proofs.Words.{take-bytes, drop-bytes}
-use Rattle.equality.proofs.ByLimbs.{Zeros, zeros-none, zeros-more, zeros-rest, part-not-zero, front-zero}
+use Rattle.equality.proofs.Parts.{Zeros, zeros-none, zeros-more, zeros-rest, part-not-zero, front-zero}
 
 -- `==` of two byte strings of one length
 pub same-bytes : (a b : Bytes) {r : Bool} → AllBytes a → AllBytes b → length a ≡ length b → r ≡ pointwise eqb a b → r ≡ eqb (num a) (num b)
 same-bytes a b {r} va vb l e =
     let d : Decides (pointwise eqb a b) (a ≡ b) = bytes_eq-Decides a b in
     e ∙ same_test (pointwise eqb a b) (eqb (num a) (num b)) (λ t. eq-eqb (num a) (num b) (ap num (d.0 t))) (λ t. d.1 (num-injective a b l va vb (eqb-true (num a) (num b) t)))
+
+zeros-are-bytes : (n : ℕ) → AllBytes (replicate n 0)
+zeros-are-bytes zero = tt
+zeros-are-bytes (suc n) = (omega arith, zeros-are-bytes n)
+
+-- and with zeros
+pub zeros-same : (a : Bytes) (n : ℕ) {r : Bool} → AllBytes a → length a ≡ n → r ≡ pointwise eqb a (replicate n 0) → r ≡ eqb (num a) 0
+zeros-same a n v l e =
+    same-bytes a (replicate n 0) v (zeros-are-bytes n) (l ∙ sym (length-replicate {A = ℕ} n 0)) e ∙ ap (eqb (num a)) (num-zeros n)
 
 -- every byte is zero, or one is not
 pub zero-bytes : (bs : Bytes) (r : Bool)

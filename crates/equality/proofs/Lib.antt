@@ -1,2 +1,2 @@
-pub mod ByLimbs
+pub mod Parts
 pub mod Bytes

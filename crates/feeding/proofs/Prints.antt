@@ -3,11 +3,10 @@
 -- moves answers from `rest` to what has been printed, and leaves both together the same.
 use Rattle.std.proofs.Common.{ℕ, zero, suc, ◌≤◌, ◌<◌, arith, ◌≡◌, refl, sym, ap, ◌∙◌, List, [], ◌∷◌, ◌++◌, append_assoc, append-nil, Bool, true, false, true≢false, ◌&&◌, ◌||◌, le-ltb, ltb-true, ltb-false, eqb, leb, ltb, length, take, drop, replicate, length-append, length-drop}
 use Rattle.std.proofs.Math.Option.{none}
-use borrow.Author.Tests.{lt-leb}
 use Rattle.std.proofs.Math.ListN.{length-replicate}
 use Rattle.rules.specs.Words.{Bytes}
 use Rattle.rules.specs.Program.{line_feed, greatest_line, last_line, lines_from, lines, message_of, program_table, answers_from, program}
-use Rattle.std.proofs.lemmas.Bool.{and_parts, and_right}
+use Rattle.std.proofs.lemmas.Bool.{lt-leb, and_parts, and_right}
 use Rattle.feeding.proofs.Choices.{if-true, if-false}
 use Rattle.answering.specs.Answering.{answer_of}
 use Rattle.answering.proofs.Steps.{answers-step}

@@ -4,7 +4,8 @@ use Rattle.std.specs.Prelude.{ℕ, zero, suc, ◌+◌, ◌-◌, ◌≤◌, ◌�
 use Rattle.std.proofs.Math.Option.{Option, none}
 use Rattle.rules.specs.Words.{Bytes}
 use Rattle.rules.specs.Program.{line_feed, greatest_line, message_of, program_table}
-use Rattle.writing.specs.Wrote.{Wrote}
+use Rattle.writing.specs.declared.text.Text.{Text}
+use Rattle.writing.specs.Wrote.{room, Wrote}
 use Rattle.answering.specs.Answering.{Answered, answer_of, answer_room}
 use Rattle.feeding.specs.declared.Fed.{Fed}
 
@@ -70,21 +71,21 @@ fed room t long piece =
     elim (has_room room b) [ true ↦ keeping b | false ↦ b ]
 
 -- what is said of a piece of n bytes, of which `at` are taken, and the others are such a line
-unfoldable pub kept : (n at : ℕ) → (long : Bool) → (used : ℕ) → Fed
-kept n at long used =
+unfoldable pub kept : (n at : ℕ) → (long : Bool) → Fed
+kept n at long =
     elim (long || ltb greatest_line (n - at)) [
-      | true ↦ record { taken = n; long = true; used = used; full = false }
-      | false ↦ record { taken = at; long = false; used = used; full = false }
+      | true ↦ record { taken = n; long = true; full = false }
+      | false ↦ record { taken = at; long = false; full = false }
     ]
 
 -- The promise: every byte of the answers and of the table, and what is left of the piece.
-pub record Feeds (table : Bytes) (long : Bool) (piece out : Bytes) (r : Fed) (out_after table_after : Bytes) : Type 0 where
-  pub wrote : Wrote out 0 (fed (length out) table long piece).text r.used out_after
-  pub changed : table_after ≡ (fed (length out) table long piece).table
-  pub begun : r.long ≡ (fed (length out) table long piece).long
-  pub left : drop r.taken piece ≡ (fed (length out) table long piece).left
+pub record Feeds (table : Bytes) (long : Bool) (piece : Bytes) (before : Text) (r : Fed) (after : Text) (table_after : Bytes) : Type 0 where
+  pub wrote : Wrote before (fed (room before) table long piece).text after
+  pub changed : table_after ≡ (fed (room before) table long piece).table
+  pub begun : r.long ≡ (fed (room before) table long piece).long
+  pub left : drop r.taken piece ≡ (fed (room before) table long piece).left
   pub within : r.taken ≤ length piece
-  pub full : r.full ≡ not (has_room (length out) (answered (length out) table long piece))
+  pub full : r.full ≡ not (has_room (room before) (answered (room before) table long piece))
   pub short : r.full ≡ false → length piece ≤ r.taken + greatest_line
 
 -- The last line has no line feed: "A last line without a line feed counts unless it is empty."

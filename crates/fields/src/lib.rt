@@ -22,7 +22,7 @@ const WRITE_VALUE_AT: usize = 2 * rules::WORD_BYTES;
 // Each word of the documents has a reader of its name; they differ in the offset alone.
 
 // The first word of every message's data: the capability index.
-pub fn index(d: &[u8]) -> &[u8]
+pub fn index(d: &[u8]) -> &[u8; rules::WORD_BYTES]
     requires { word_bytes ≤ length d.now }
     ensures { Holds word_bytes result.now (index_word d.now) }
 {
@@ -30,7 +30,7 @@ pub fn index(d: &[u8]) -> &[u8]
 }
 
 // The second word of the data of Call, Register, Delete and Set Entry: the key, with the bytes before it.
-pub fn key_word(d: &[u8]) -> &[u8]
+pub fn key_word(d: &[u8]) -> &[u8; rules::WORD_BYTES]
     requires { 2 * word_bytes ≤ length d.now }
     ensures { Holds word_bytes result.now (key_word d.now) }
 {
@@ -38,7 +38,7 @@ pub fn key_word(d: &[u8]) -> &[u8]
 }
 
 // The third word of Register's data: the address, with the bytes before it.
-pub fn address_word(d: &[u8]) -> &[u8]
+pub fn address_word(d: &[u8]) -> &[u8; rules::WORD_BYTES]
     requires { 3 * word_bytes ≤ length d.now }
     ensures { Holds word_bytes result.now (address_word d.now) }
 {
@@ -46,7 +46,7 @@ pub fn address_word(d: &[u8]) -> &[u8]
 }
 
 // The second word of Write's data: the address to write at.
-pub fn write_address(d: &[u8]) -> &[u8]
+pub fn write_address(d: &[u8]) -> &[u8; rules::WORD_BYTES]
     requires { 2 * word_bytes ≤ length d.now }
     ensures { Holds word_bytes result.now (write_address d.now) }
 {
@@ -54,7 +54,7 @@ pub fn write_address(d: &[u8]) -> &[u8]
 }
 
 // The third word of Write's data: the value to write.
-pub fn write_value(d: &[u8]) -> &[u8]
+pub fn write_value(d: &[u8]) -> &[u8; rules::WORD_BYTES]
     requires { 3 * word_bytes ≤ length d.now }
     ensures { Holds word_bytes result.now (write_value d.now) }
 {
@@ -85,7 +85,7 @@ pub fn leading(kind: Kind, d: &[u8]) -> bool
 }
 
 // The key of a key word with no leading bytes.
-pub fn key_of(d: &[u8]) -> &[u8]
+pub fn key_of(d: &[u8]) -> &[u8; rules::KEY_BYTES]
     requires { (2 * word_bytes ≤ length d.now) × (key_too_long d.now ≡ false) }
     ensures { Holds key_bytes result.now (key_word d.now) }
 {

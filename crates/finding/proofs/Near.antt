@@ -24,9 +24,6 @@ module _ (t : Bytes) (k i : ℕ) where
   place-at-end b e = sym (eq-eqb (place t k) i (omega (arith, ltb-false (place t k) i b, below_length (store t) k)))
 
 module _ (t : Bytes) (k i : ℕ) (q : record_form t ≡ true) where
-  pub before-none : i ≡ 0 → false ≡ ltb (place t k) i
-  before-none z = sym (le-ltb (place t k) i (omega arith))
-
   pub before_last : 1 ≤ i → i ≤ length (store t) → leb k (word_at t (64 * (i - 1))) ≡ ltb (place t k) i
   before_last l h = go (leb k (word_at t (64 * (i - 1)))) refl
     where

@@ -1,7 +1,5 @@
 -- The series requests what set-up gives: both sides are computed.
-use Rattle.std.proofs.Common.{ℕ, zero, suc, ◌+◌, ◌*◌, ◌-◌, ◌≤◌, ◌<◌, add-one, ◌≡◌, refl, List, [], ◌∷◌, length, set, replicate, false, lit≤}
-use lib.ListN.{get_or}
-use native.Mathlib.Omega.{arith}
+use Rattle.std.proofs.Common.{ℕ, zero, suc, ◌+◌, ◌*◌, ◌-◌, ◌≤◌, ◌<◌, arith, add-one, ◌≡◌, refl, List, [], ◌∷◌, length, set, replicate, false, lit≤, get_or}
 use Rattle.rules.specs.Words.{Bytes}
 use Rattle.rules.specs.Source.{words_of}
 use Rattle.rules.specs.declared.Kind.{Kind as Type_number}

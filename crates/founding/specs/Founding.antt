@@ -1,7 +1,7 @@
 -- What the functions that make the first table ask, and the data of a Register that requests the first procedure's capabilities.
 use Rattle.std.specs.Prelude.{ℕ, ◌≤◌, ◌≡◌, List, [], ◌∷◌, ◌++◌, true, length, replicate}
-use Rattle.rules.specs.Words.{Bytes, key_bytes, address_bytes, num}
-use Rattle.rules.specs.Table.{store, length_fits, record_form}
+use Rattle.rules.specs.Words.{Bytes}
+use Rattle.rules.specs.Table.{store, length_fits}
 use Rattle.rules.specs.Sound.{IsKey, IsAddress}
 use Rattle.rules.specs.Messages.{Request, series_at}
 use Rattle.rules.specs.Calls.{first_capabilities}
@@ -22,17 +22,13 @@ first_series = replicate series_at 0 ++ words_in_bytes (request_words first_capa
 
 -- a table without records that has room for the first ones
 pub record Empty (t : Bytes) : Type 0 where
-  pub form : record_form t ≡ true
   pub none : store t ≡ []
   pub long : first_room ≤ length t
 
 -- what set-up is lent, where no check of its row fails
-pub record SetUpLent (t key address kernel_address : Bytes) : Type 0 where
+pub record SetUpLent (t : Bytes) (k a ka : ℕ) : Type 0 where
   pub fits : length_fits t ≡ true
   pub long : first_room ≤ length t
-  pub key_size : length key ≡ key_bytes
-  pub address_size : length address ≡ address_bytes
-  pub kernel_size : length kernel_address ≡ address_bytes
-  pub key_is : IsKey (num key)
-  pub address_is : IsAddress (num address)
-  pub kernel_is : IsAddress (num kernel_address)
+  pub key : IsKey k
+  pub address : IsAddress a
+  pub kernel_address : IsAddress ka

@@ -12,6 +12,7 @@ use Rattle.laws.proofs.Parts.{num-take, num-byte}
 use Rattle.words.specs.Words.{small_limit}
 use Rattle.keys.specs.Keys.{MiddleOf}
 use Rattle.moves.specs.Moves.{WordPart}
+use Rattle.finding.specs.declared.Records.{Records}
 use Rattle.walks.specs.Walks.{front_of, head_rows}
 use Rattle.lists.specs.Lists.{record_at, Laid}
 use Rattle.heads.specs.Heads.{named}
@@ -52,15 +53,17 @@ module _ (k n : ℕ) {e : ℕ} (end : e ≡ k % 256 ^ 3) {a : Bool} (p : a ≡ e
         rw (eq-eqb (k % 256 ^ 3) 0 zeros) (eqb_same x 1 n (suc k) (λ y. omega (arith, zeros)) (λ y. omega (arith, zeros)))
 
 -- an index, cut by `small`, and the key at the place that it names
-module _ {t : Bytes} {list places : ℕ} (l : Laid t list places) (x p : ℕ) {i : ℕ} (e : i ≡ min x small_limit) where
-  pub no_index : i < 1 → false ≡ named t x p
+module _ {table : Records} {list places : ℕ} (l : Laid table list places) (x p : ℕ) {i : ℕ} (e : i ≡ min x small_limit) where
+  pub no_index : i < 1 → false ≡ named table.bytes.now x p
   no_index h = rw (lt-leb 1 x (omega (arith, e)))
 
-  pub place-if : 1 ≤ i → i ≤ places → {w : Bytes} → WordPart t (64 * (list + i) + 32) w → {r : Bool} → r ≡ eqb (num w) p → r ≡ named t x p
+  pub place-if : 1 ≤ i → i ≤ places → {w : Bytes} → WordPart table.bytes.now (64 * (list + i) + 32) w → {r : Bool}
+      → r ≡ eqb (num w) p → r ≡ named table.bytes.now x p
   place-if h g v q =
       let same : x ≡ i = omega (arith, e, laid-small l) in
       let here = place_at l i h g in
-      rw (same, le-leb 1 i h, le-leb i (list_length (store t)) (omega (arith, l.all)), here) (q ∙ ap (λ (y : ℕ). eqb y p) v.number)
+      rw (same, le-leb 1 i h, le-leb i (list_length (store table.bytes.now)) (omega (arith, l.all)), here)
+      (q ∙ ap (λ (y : ℕ). eqb y p) v.number)
 
 -- the whole: the keys, the address, the index
 module _ (t : Bytes) (i : ℕ) {key next : Bytes} (k : WordPart t (64 * i) key) (n : WordPart t (64 * (i + 1)) next) {a : Bool}

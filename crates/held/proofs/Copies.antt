@@ -1,14 +1,7 @@
--- Copies of held capabilities. One that is put behind the first i stands there, and those before it stand as they did, so a reading
--- comes further by one.
-use Prim.Native.Nat.{ℕ, ◌+◌, ◌*◌, ◌-◌, ◌≤◌, ◌<◌}
-use native.Mathlib.Omega.{arith}
-use mathlib.Core.Path.{◌≡◌, refl, sym, ap, ◌∙◌}
-use mathlib.Core.Bool.{Bool, true, false}
-use mathlib.Core.List.{◌++◌}
-use lib.Dec.{ltb}
-use lib.ListN.{length, take, drop, length-append, length-drop, take-append-drop}
-use lib.Seq.{take_at, drop_at, length-take-le, take-append-le, drop-append-le}
-use borrow.Author.Tests.{ltb-true, ltb-false}
+-- Copies of held capabilities. One that is put behind the first i stands there, and those before it stand as they did, so a
+-- reading comes further by one.
+use Rattle.std.proofs.Common.{ℕ, ◌+◌, ◌*◌, ◌-◌, ◌≤◌, ◌<◌, arith, ◌≡◌, refl, sym, ap, ◌∙◌, Bool, true, false, ◌++◌, ltb, length, take, drop, length-drop, take-append-drop, take_at, drop_at, length-take-le, ltb-true, ltb-false}
+use lib.Seq.{take-append-le, drop-append-le}
 use borrow.Rule.Slice.PartMut.{put_mid, post_of}
 use Rattle.rules.specs.Words.{Bytes}
 use Rattle.rules.specs.Table.{Store}
@@ -16,15 +9,12 @@ use Rattle.rules.specs.Procedures.{capability}
 use Rattle.rules.specs.Source.{OfType}
 use Rattle.rights.specs.Rights.{capability_in}
 use Rattle.holding.specs.Holding.{CapabilityOf}
-use Rattle.held.specs.Held.{copies_bytes, copy_in, Reached, Unread, Ready, ReachedBehind}
-use Rattle.held.specs.declared.Reading.{Reading}
+use Rattle.held.specs.Held.{copy_in, Reached, Unread, ReachedBehind}
+use Rattle.held.specs.declared.Held.{Held}
 
 -- Where none is read, any bytes will do.
-pub unread-reached : {s : Store} {p n : ℕ} {r : Reading} → Unread s p n r → (copies : Bytes) → length copies ≡ copies_bytes → Reached s p copies r
-unread-reached u copies l = record { number = rw u.type u.number; size = l; held = λ i h. absurd (omega (arith, u.none)) }
-
-pub unread-ready : {s : Store} {p n : ℕ} {r : Reading} → Unread s p n r → (before : Reading) → Ready s p n before r
-unread-ready u before = record { type = u.type; reached = λ copies g. unread-reached u copies g.size }
+pub unread-reached : {s : Store} {p n : ℕ} {h : Held} → Unread s p n h → Reached s p h
+unread-reached u = record { number = rw u.type u.number; held = λ i h. absurd (omega (arith, u.none)) }
 
 -- A copy as a part of a slice arrives.
 pub copy-part : (copies : Bytes) (i : ℕ) → take (64 * i + 64 - 64 * i) (drop (64 * i) copies) ≡ copy_in copies i
@@ -47,9 +37,6 @@ module _ (copies : Bytes) (i : ℕ) (h : 64 * i + 64 ≤ length copies) (bs : By
   front_length : length (take (64 * i) copies) ≡ 64 * i
   front_length = length-take-le (64 * i) copies (omega arith)
 
-  with-length : length (copies_with copies i bs) ≡ length copies
-  with-length = simp (length-append, length-drop) (omega (arith, front_length))
-
   put-there : copy_in (copies_with copies i bs) i ≡ bs
   put-there = copy-behind (take (64 * i) copies) bs (post_of (64 * i) (64 * i + 64 - 64 * i) copies) i front_length l
 
@@ -61,29 +48,27 @@ module _ (copies : Bytes) (i : ℕ) (h : 64 * i + 64 ≤ length copies) (bs : By
       ∙ ap (λ (x : Bytes). copy_in x j) (take-append-drop (64 * i) copies)
 
 -- The reading comes further by the one that is put there.
-module _ {s : Store} {p : ℕ} {copies : Bytes} {r : Reading} (g : Reached s p copies r) {i : ℕ} (all : i ≤ r.read) (h : i < 255)
-    {before bs : Bytes} (c : CapabilityOf s p r.kind.0 (i + 1) before bs) where
-  fits : 64 * i + 64 ≤ length copies
-  fits = omega (arith, g.size)
-
+module _ {s : Store} {p : ℕ} {h : Held} (g : Reached s p h) {i : ℕ} (all : i ≤ h.read) (fits : 64 * i + 64 ≤ length h.copies)
+    {before bs : Bytes} (c : CapabilityOf s p h.kind.0 (i + 1) before bs) where
   now-held : (j : ℕ) → j < i + 1
-      → OfType r.kind.0 (λ kind. capability_in kind (copy_in (copies_with copies i bs) j) ≡ capability s p kind (j + 1))
-  now-held j k = go (ltb j i) refl
+      → OfType h.kind.0 (λ kind. capability_in kind (copy_in (copies_with h.copies i bs) j) ≡ capability s p kind (j + 1))
+  now-held j l = go (ltb j i) refl
     where
       go : (t : Bool) → ltb j i ≡ t
-          → OfType r.kind.0 (λ kind. capability_in kind (copy_in (copies_with copies i bs) j) ≡ capability s p kind (j + 1))
+          → OfType h.kind.0 (λ kind. capability_in kind (copy_in (copies_with h.copies i bs) j) ≡ capability s p kind (j + 1))
       go true e kind q =
           let earlier = ltb-true j i e in
-          ap (capability_in kind) (kept-before copies i fits bs c.size j earlier) ∙ g.held j (omega arith) kind q
+          ap (capability_in kind) (kept-before h.copies i fits bs c.size j earlier) ∙ g.held j (omega arith) kind q
       go false e kind q =
           let here : j ≡ i = omega (arith, ltb-false j i e) in
-          rw here (ap (capability_in kind) (put-there copies i fits bs c.size) ∙ c.is kind q)
+          rw here (ap (capability_in kind) (put-there h.copies i fits bs c.size) ∙ c.is kind q)
 
   pub reached-behind : {next : ℕ}
-      → ReachedBehind s p r.kind.0 i (copies_with copies i bs) (record { kind = r.kind; number = r.number; read = i + 1; next = next })
+      → ReachedBehind s p h.kind.0 i
+      (record { copies = copies_with h.copies i bs; kind = h.kind; number = h.number; read = i + 1; next = next })
   reached-behind =
       record {
         type = refl;
-        reached = record { number = g.number; size = with-length copies i fits bs c.size ∙ g.size; held = now-held };
+        reached = record { number = g.number; held = now-held };
         behind = omega arith;
       }

@@ -1,12 +1,6 @@
 -- The place of the capability that a search finds: the number of tests is the place, from 1, of the first held capability that
 -- contains the request. By induction over the capabilities that are left to test.
-use Prim.Native.Nat.{ℕ, zero, suc, ◌+◌, ◌≤◌, ◌<◌}
-use native.Mathlib.Omega.{arith}
-use mathlib.Core.Path.{◌≡◌, refl, sym, ap, ◌∙◌}
-use mathlib.Core.Bool.{Bool, true, false, true≢false}
-use mathlib.Core.List.{List}
-use lib.Dec.{ltb}
-use borrow.Author.Tests.{ltb-true, ltb-false}
+use Rattle.std.proofs.Common.{ℕ, zero, suc, ◌+◌, ◌≤◌, ◌<◌, arith, ◌≡◌, refl, sym, ap, ◌∙◌, Bool, true, false, true≢false, List, ltb, ltb-true, ltb-false}
 use Rattle.rules.specs.Words.{Bytes}
 use Rattle.rules.specs.Table.{Store}
 use Rattle.rules.specs.Capabilities.{Kind, number, Capability, within}
@@ -15,6 +9,7 @@ use Rattle.rules.specs.Sound.{any_of}
 use Rattle.rules.specs.Calls.{tests_in}
 use Rattle.rights.specs.Rights.{capability_in}
 use Rattle.held.specs.Held.{Searched}
+use Rattle.held.specs.declared.Held.{Held}
 use Rattle.held.specs.declared.Search.{Search}
 use Rattle.held.proofs.Searching.{any-later, tests-first, tests-later}
 
@@ -58,7 +53,8 @@ module _ (s : Store) (p : ℕ) (kind : Kind) (b : Capability) where
       go false true e q later = later (ltb-true (suc i) j q) (omega (arith, tests-later kind b _ (left n (suc i)) e))
       go false false e q later = let here : j ≡ suc i = omega (arith, ltb-false (suc i) j q) in ap contains here ∙ e
 
-module _ {s : Store} {p n : ℕ} {request copies : Bytes} {r : Search} (found : Searched s p n request copies r) (kind : Kind) (q : number kind ≡ n) where
+module _ {s : Store} {p n : ℕ} {request : Bytes} {h : Held} {r : Search} (found : Searched s p n request h r)
+    (kind : Kind) (q : number kind ≡ n) where
   -- the capability at the place contains the request
   pub place-contains : r.contained ≡ true → within kind (capability_in kind request) (capability s p kind r.tests) ≡ true
   unfolding held

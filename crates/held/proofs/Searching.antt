@@ -1,12 +1,6 @@
 -- The search among held capabilities. So far none of the first i contains the request, so the definitions' answers are those
 -- of the capabilities that are left, and i more tests.
-use Prim.Native.Nat.{ℕ, suc, ◌+◌, ◌*◌, ◌-◌, ◌≤◌, ◌<◌}
-use native.Mathlib.Omega.{arith}
-use native.Mathlib.Numerals.{add-one}
-use mathlib.Core.Path.{◌≡◌, sym, ap, ◌∙◌}
-use mathlib.Core.List.{List, ◌∷◌}
-use mathlib.Core.Bool.{Bool, true, false}
-use lib.ListN.{take, drop, length-take, length-drop}
+use Rattle.std.proofs.Common.{ℕ, suc, ◌+◌, ◌*◌, ◌-◌, ◌≤◌, ◌<◌, arith, add-one, ◌≡◌, sym, ap, ◌∙◌, List, ◌∷◌, Bool, true, false, length, take, drop, length-take, length-drop}
 use Rattle.rules.specs.Words.{Bytes}
 use Rattle.rules.specs.Table.{Store, get}
 use Rattle.rules.specs.KernelStorage.{count_slot}
@@ -18,7 +12,7 @@ use Rattle.laws.proofs.KindFacts.{word_count-small}
 use Rattle.laws.proofs.KindSound.{count-at-most, each-in-range}
 use Rattle.rights.specs.Rights.{capability_in, WithinNeeds}
 use Rattle.held.specs.Held.{Reached, Ready, ReachedBehind, SearchNeeds, Searched}
-use Rattle.held.specs.declared.Reading.{Reading}
+use Rattle.held.specs.declared.Held.{Held}
 use Rattle.held.proofs.Copies.{copy-part}
 
 -- The test of one and the tests, where the first of a list contains the request, and where it does not.
@@ -87,22 +81,22 @@ module _ {s : Store} {p n : ℕ} {request : Bytes} (need : SearchNeeds s p n req
   count_small = omega (arith, counted, count-at-most s p need.kind need.sound)
 
 -- The loop: the first i of `count` held capabilities were tested, and there are copies of them.
-pub record Seeking (s : Store) (p n : ℕ) (request : Bytes) (count : ℕ) (copies : Bytes) (r : Reading) (i : ℕ) : Type 0 where
-  pub type : r.kind.0 ≡ n
-  pub reached : Reached s p copies r
+pub record Seeking (s : Store) (p n : ℕ) (request : Bytes) (count : ℕ) (h : Held) (i : ℕ) : Type 0 where
+  pub type : h.kind.0 ≡ n
+  pub reached : Reached s p h
   pub all : count ≡ get s (count_slot p n)
   pub small : count ≤ 255
   pub inside : i ≤ count
-  pub there : i ≤ r.read
+  pub there : i ≤ h.read
   pub left : (kind : Kind) → number kind ≡ n → Left s p kind (capability_in kind request) count i
 
-pub seek-start : {s : Store} {p n : ℕ} {request : Bytes} → SearchNeeds s p n request → {before r : Reading} → Ready s p n before r
-    → {copies : Bytes} → Reached s p copies before → Seeking s p n request r.number copies r 0
+pub seek-start : {s : Store} {p n : ℕ} {request : Bytes} → SearchNeeds s p n request → {before h : Held} → Ready s p n before h
+    → Reached s p before → Seeking s p n request h.number h 0
 unfolding count_of
-seek-start {s} {p} {n} need {r = r} y {copies} g =
-    let now = y.reached copies g in
-    let same : get s (count_slot p r.kind.0) ≡ get s (count_slot p n) = ap (λ (m : ℕ). get s (count_slot p m)) y.type in
-    let all : r.number ≡ get s (count_slot p n) = omega (arith, now.number, count_small need) in
+seek-start {s} {p} {n} need {h = h} y g =
+    let now = y.reached g in
+    let same : get s (count_slot p h.kind.0) ≡ get s (count_slot p n) = ap (λ (m : ℕ). get s (count_slot p m)) y.type in
+    let all : h.number ≡ get s (count_slot p n) = omega (arith, now.number, count_small need) in
     record {
       type = y.type;
       reached = now;
@@ -113,47 +107,48 @@ seek-start {s} {p} {n} need {r = r} y {copies} g =
       left = λ kind q. left-all (all ∙ ap (λ (m : ℕ). get s (count_slot p m)) (sym q));
     }
 
-pub seek-end : {s : Store} {p n : ℕ} {request : Bytes} {count : ℕ} {copies : Bytes} {r : Reading} {i : ℕ}
-    → Seeking s p n request count copies r i → count ≤ i
-    → Searched s p n request copies (record { contained = false; tests = count; reading = r })
-seek-end {count = count} {i = i} g h =
+pub seek-end : {s : Store} {p n : ℕ} {request : Bytes} {count : ℕ} {h : Held} {i : ℕ}
+    → Seeking s p n request count h i → count ≤ i
+    → Searched s p n request h (record { contained = false; tests = count })
+seek-end {count = count} {i = i} g k =
     let last : i ≡ count = omega (arith, g.inside) in
     record {
-      contained = λ kind q. (left-none (g.left kind q) h).0;
-      tests = λ kind q. sym last ∙ (left-none (g.left kind q) h).1;
+      contained = λ kind q. (left-none (g.left kind q) k).0;
+      tests = λ kind q. sym last ∙ (left-none (g.left kind q) k).1;
       small = g.small;
       reached = g.reached;
     }
 
 -- one more is read, if it was not, and tested
-module _ {s : Store} {p n : ℕ} {request : Bytes} {count : ℕ} {before : Bytes} {r : Reading} {i : ℕ} (g : Seeking s p n request count before r i)
-    (h : i < count) {copies : Bytes} {r' : Reading} (m : ReachedBehind s p r.kind.0 i copies r') where
+module _ {s : Store} {p n : ℕ} {request : Bytes} {count : ℕ} {before : Held} {i : ℕ} (g : Seeking s p n request count before i)
+    (k : i < count) {h : Held} (m : ReachedBehind s p before.kind.0 i h) where
   abbrev part : Bytes
-  part = take (64 * i + 64 - 64 * i) (drop (64 * i) copies)
+  part = take (64 * i + 64 - 64 * i) (drop (64 * i) h.copies)
 
   part-is : (kind : Kind) → number kind ≡ n → capability_in kind part ≡ capability s p kind (i + 1)
   part-is kind q =
-      ap (capability_in kind) (copy-part copies i) ∙ m.reached.held i m.behind kind (q ∙ sym (m.type ∙ g.type))
+      ap (capability_in kind) (copy-part h.copies i) ∙ m.reached.held i m.behind kind (q ∙ sym (m.type ∙ g.type))
 
   -- the one that was read can be compared
-  pub comparable : SearchNeeds s p n request → WithinNeeds n request part
-  comparable need =
+  pub comparable : 64 * i + 64 ≤ length h.copies → SearchNeeds s p n request → WithinNeeds n request part
+  comparable fits need =
       record {
         kind = need.kind;
         names = need.names;
         size_b = need.size;
-        size_a = simp (length-take, length-drop) (omega (arith, m.reached.size, g.small, word_count-small need.kind));
+        size_a = simp (length-take, length-drop) (omega (arith, fits, word_count-small need.kind));
         in_range =
             ap (prefix_in_range need.kind) (part-is need.kind need.names)
             ∙ each-in-range s p need.kind need.sound (i + 1) (omega arith) (omega (arith, counted need, g.all));
       }
 
-  module _ {b : Bool} (q : (kind : Kind) → number kind ≡ n → b ≡ within kind (capability_in kind request) (capability_in kind part)) where
+  module _ {b : Bool}
+      (q : (kind : Kind) → number kind ≡ n → b ≡ within kind (capability_in kind request) (capability_in kind part)) where
     tested : {t : Bool} → b ≡ t → (kind : Kind) → number kind ≡ n
         → within kind (capability_in kind request) (capability s p kind (i + 1)) ≡ t
     tested e kind names = ap (within kind (capability_in kind request)) (sym (part-is kind names)) ∙ sym (q kind names) ∙ e
 
-    pub seek-later : b ≡ false → Seeking s p n request count copies r' (i + 1)
+    pub seek-later : b ≡ false → Seeking s p n request count h (i + 1)
     seek-later e =
         record {
           type = m.type ∙ g.type;
@@ -162,14 +157,14 @@ module _ {s : Store} {p n : ℕ} {request : Bytes} {count : ℕ} {before : Bytes
           small = g.small;
           inside = omega arith;
           there = omega (arith, m.behind);
-          left = λ kind names. left-later (g.left kind names) h (tested e kind names);
+          left = λ kind names. left-later (g.left kind names) k (tested e kind names);
         }
 
-    pub seek_found : b ≡ true → Searched s p n request copies (record { contained = true; tests = i + 1; reading = r' })
+    pub seek_found : b ≡ true → Searched s p n request h (record { contained = true; tests = i + 1 })
     seek_found e =
         record {
-          contained = λ kind names. (left-first (g.left kind names) h (tested e kind names)).0;
-          tests = λ kind names. (left-first (g.left kind names) h (tested e kind names)).1;
+          contained = λ kind names. (left-first (g.left kind names) k (tested e kind names)).0;
+          tests = λ kind names. (left-first (g.left kind names) k (tested e kind names)).1;
           small = omega (arith, g.small);
           reached = m.reached;
         }

@@ -10,42 +10,40 @@ use Rattle.rules.specs.Sound.{greatest_count, any_of, kind_sound}
 use Rattle.rules.specs.Calls.{tests_in}
 use Rattle.words.specs.Words.{small_limit}
 use Rattle.rights.specs.Rights.{capability_in}
-use Rattle.held.specs.declared.Reading.{Reading}
+use Rattle.held.specs.declared.Held.{Held}
 use Rattle.held.specs.declared.Search.{Search}
 
--- the bytes of a capability's copy, and of copies of as many as a procedure may hold
+-- the bytes of a capability's copy
 abbrev pub copy_bytes : ℕ
 copy_bytes = word_bytes * greatest_words
-
-abbrev pub copies_bytes : ℕ
-copies_bytes = greatest_count * copy_bytes
 
 -- the copy behind the first i
 abbrev pub copy_in : (copies : Bytes) → (i : ℕ) → Bytes
 copy_in copies i = take copy_bytes (drop (copy_bytes * i) copies)
 
--- how far a reading has come: it has the number of its type's capabilities that p holds, and the copies begin with those that are read
-pub record Reached (s : Store) (p : ℕ) (copies : Bytes) (r : Reading) : Type 0 where
-  pub number : r.number ≡ min (get s (count_slot p r.kind.0)) small_limit
-  pub size : length copies ≡ copies_bytes
-  pub held : (i : ℕ) → i < r.read → OfType r.kind.0 (λ kind. capability_in kind (copy_in copies i) ≡ capability s p kind (i + 1))
+-- how far the reading of a type has come: h has the number of the type's capabilities that p holds, and its copies begin with
+-- those that are read
+pub record Reached (s : Store) (p : ℕ) (h : Held) : Type 0 where
+  pub number : h.number ≡ min (get s (count_slot p h.kind.0)) small_limit
+  pub held : (i : ℕ) → i < h.read
+      → OfType h.kind.0 (λ kind. capability_in kind (copy_in h.copies i) ≡ capability s p kind (i + 1))
 
--- a reading of the type that n names, before any is read
-pub record Unread (s : Store) (p n : ℕ) (r : Reading) : Type 0 where
-  pub type : r.kind.0 ≡ n
-  pub number : r.number ≡ min (get s (count_slot p n)) small_limit
-  pub none : r.read ≡ 0
+-- the reading of the type that n names, before any is read
+pub record Unread (s : Store) (p n : ℕ) (h : Held) : Type 0 where
+  pub type : h.kind.0 ≡ n
+  pub number : h.number ≡ min (get s (count_slot p n)) small_limit
+  pub none : h.read ≡ 0
 
--- a reading of the type that n names, which has come as far as it says in all copies in which the one before has
-pub record Ready (s : Store) (p n : ℕ) (before r : Reading) : Type 0 where
-  pub type : r.kind.0 ≡ n
-  pub reached : (copies : Bytes) → Reached s p copies before → Reached s p copies r
+-- the reading of the type that n names, which has come as far as it says if the one before has
+pub record Ready (s : Store) (p n : ℕ) (before after : Held) : Type 0 where
+  pub type : after.kind.0 ≡ n
+  pub reached : Reached s p before → Reached s p after
 
--- a reading of the type that n names, which has come behind the first i
-pub record ReachedBehind (s : Store) (p n i : ℕ) (copies : Bytes) (r : Reading) : Type 0 where
-  pub type : r.kind.0 ≡ n
-  pub reached : Reached s p copies r
-  pub behind : i < r.read
+-- the reading of the type that n names, which has come behind the first i
+pub record ReachedBehind (s : Store) (p n i : ℕ) (h : Held) : Type 0 where
+  pub type : h.kind.0 ≡ n
+  pub reached : Reached s p h
+  pub behind : i < h.read
 
 -- what is asked where the capabilities of p, of the type that n names, are searched for one that contains the request
 pub record SearchNeeds (s : Store) (p n : ℕ) (request : Bytes) : Type 0 where
@@ -56,8 +54,8 @@ pub record SearchNeeds (s : Store) (p n : ℕ) (request : Bytes) : Type 0 where
   pub size : word_bytes * word_count kind ≤ length request
 
 -- what the search finds, and how far the reading has come then
-pub record Searched (s : Store) (p n : ℕ) (request copies : Bytes) (r : Search) : Type 0 where
+pub record Searched (s : Store) (p n : ℕ) (request : Bytes) (after : Held) (r : Search) : Type 0 where
   pub contained : OfType n (λ kind. r.contained ≡ any_of (within kind (capability_in kind request)) (held s p kind))
   pub tests : OfType n (λ kind. r.tests ≡ tests_in kind (capability_in kind request) (held s p kind))
   pub small : r.tests ≤ greatest_count
-  pub reached : Reached s p copies r.reading
+  pub reached : Reached s p after

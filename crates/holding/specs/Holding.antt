@@ -1,7 +1,7 @@
 -- What the functions that read held capabilities ask and promise, where the rules have no name for it.
-use Rattle.std.specs.Prelude.{ℕ, zero, suc, ◌+◌, ◌*◌, min, ◌≡◌, true, length, drop, replicate}
-use Rattle.rules.specs.Words.{Bytes, key_bytes, word_bytes}
-use Rattle.rules.specs.Table.{Store, get, store, record_form}
+use Rattle.std.specs.Prelude.{ℕ, zero, suc, ◌+◌, ◌*◌, min, ◌≡◌, length, drop, replicate}
+use Rattle.rules.specs.Words.{Bytes, word_bytes}
+use Rattle.rules.specs.Table.{Store, get}
 use Rattle.rules.specs.KernelStorage.{count_slot, word_slot}
 use Rattle.rules.specs.Capabilities.{greatest_words}
 use Rattle.rules.specs.Procedures.{capability}
@@ -10,12 +10,6 @@ use Rattle.words.specs.Words.{small_limit, Holds}
 use Rattle.finding.specs.Finding.{keys_below}
 use Rattle.rights.specs.Rights.{capability_in}
 use Rattle.holding.specs.declared.Count.{Count}
-
--- a table of the record form with `used` occupied records, and a procedure's key: what is asked where held capabilities are read
-pub record Readable (t : Bytes) (used : ℕ) (procedure : Bytes) : Type 0 where
-  pub form : record_form t ≡ true
-  pub count : used ≡ length (store t)
-  pub key : length procedure ≡ key_bytes
 
 -- the 32 bytes of a word
 abbrev pub WordOf : (x : ℕ) → (w : Bytes) → Type 0

@@ -6,7 +6,9 @@ ghost use Rattle.rules.specs.Table.{get, store};
 ghost use Rattle.rules.specs.KernelStorage.{count_slot};
 ghost use Rattle.rules.specs.Capabilities.{greatest_words};
 ghost use Rattle.words.specs.Words.{small_limit};
-ghost use Rattle.holding.specs.Holding.{Readable, CountOf, WordsRead, no_capability, CapabilityOf};
+ghost use Rattle.holding.specs.Holding.{CountOf, WordsRead, no_capability, CapabilityOf};
+
+pub use records::Records;
 
 // Room for a capability of any type.
 pub const CAPABILITY_BYTES: usize = rules::WORD_BYTES * rules::GREATEST_WORDS;
@@ -19,15 +21,14 @@ pub struct Count {
 }
 
 // The count of a type, or what `small` makes of one that is not small.
-pub fn read_count(t: &[u8], used: usize, procedure: &[u8], kind: rules::Kind) -> Count
-    requires { Readable t.now used procedure.now }
-    ensures { CountOf (store t.now) (num procedure.now) kind.0 result }
+pub fn read_count(table: Records, procedure: &[u8; rules::KEY_BYTES], kind: rules::Kind) -> Count
+    ensures { CountOf (store table.entry.bytes.now) (num procedure.now) kind.0 result }
 {
     let slot = slots::count_slot(procedure, kind);
-    match records::find(t, used, &slot) {
+    match table.find(&slot) {
         Ok(place) => {
             let value_at = rules::RECORD_SIZE * place + rules::WORD_BYTES;
-            let number = words::small(moves::word_at(t, value_at));
+            let number = words::small(moves::word_at(table.bytes, value_at));
             Count { number, place }
         }
         Err(place) => Count { number: 0, place },
@@ -35,54 +36,50 @@ pub fn read_count(t: &[u8], used: usize, procedure: &[u8], kind: rules::Kind) ->
 }
 
 // The number alone.
-pub fn count_of(t: &[u8], used: usize, procedure: &[u8], kind: rules::Kind) -> usize
-    requires { Readable t.now used procedure.now }
-    ensures { result ≡ min (get (store t.now) (count_slot (num procedure.now) kind.0)) small_limit }
+pub fn count_of(table: Records, procedure: &[u8; rules::KEY_BYTES], kind: rules::Kind) -> usize
+    ensures { result ≡ min (get (store table.entry.bytes.now) (count_slot (num procedure.now) kind.0)) small_limit }
 {
-    read_count(t, used, procedure, kind).number
+    read_count(table, procedure, kind).number
 }
 
-// The words of the i-th capability of a type that a procedure holds, into room for two. Only those that the type has are looked up,
-// at a guess first; the bytes behind them stay. The result is a guess for the next capability's.
+// The words of the i-th capability of a type that a procedure holds, into room for two. Only those that the type has are looked
+// up, at a guess first; the bytes behind them stay. The result is a guess for the next capability's. The room is a part of the
+// copies of many, and so a slice.
 pub fn read_words(
     to: &mut [u8],
-    t: &[u8],
-    used: usize,
-    procedure: &[u8],
+    table: Records,
+    procedure: &[u8; rules::KEY_BYTES],
     kind: rules::Kind,
     i: u8,
     guess: usize,
 ) -> usize
-    requires to_len { length to.old ≡ word_bytes * greatest_words }
-    requires readable { Readable t.now used procedure.now }
-    ensures { WordsRead (store t.now) (num procedure.now) kind.0 i guess to.old to.new result }
+    requires { length to.old ≡ word_bytes * greatest_words }
+    ensures { WordsRead (store table.entry.bytes.now) (num procedure.now) kind.0 i guess to.old to.new result }
 {
     let count = kind.words();
     if count == 0 {
         return guess;
     }
     let first = slots::word_slot(procedure, kind, i, 0);
-    let next = records::look_near(&mut to[0..rules::WORD_BYTES], t, used, guess, &first);
+    let next = records::look_near(&mut to[0..rules::WORD_BYTES], table, guess, &first);
     if count == 1 {
         return next;
     }
     let second = slots::word_slot(procedure, kind, i, 1);
     let back = &mut to[rules::WORD_BYTES..CAPABILITY_BYTES];
-    records::look_near(back, t, used, next, &second)
+    records::look_near(back, table, next, &second)
 }
 
 // The i-th capability of a type that a procedure holds: its words come first, then zeros.
 pub fn capability(
-    t: &[u8],
-    used: usize,
-    procedure: &[u8],
+    table: Records,
+    procedure: &[u8; rules::KEY_BYTES],
     kind: rules::Kind,
     i: u8,
 ) -> [u8; CAPABILITY_BYTES]
-    requires { Readable t.now used procedure.now }
-    ensures { CapabilityOf (store t.now) (num procedure.now) kind.0 i no_capability result }
+    ensures { CapabilityOf (store table.entry.bytes.now) (num procedure.now) kind.0 i no_capability result }
 {
     let mut r = [0u8; CAPABILITY_BYTES];
-    read_words(&mut r, t, used, procedure, kind, i, used);
+    read_words(&mut r, table, procedure, kind, i, table.used);
     r
 }

@@ -1,17 +1,15 @@
 -- What every call judges first: how many bytes it was lent, and whether the table is sound.
-use Rattle.std.proofs.Common.{ℕ, Result, Ok, Err}
-use Rattle.rules.specs.Answers.{ef, code_number}
-use mathlib.Core.Path.{◌≡◌, ap}
-use mathlib.Core.Bool.{true, false, not}
-use lib.ListN.{length}
-use borrow.Author.Tests.{eq-eqb, ne_eqb}
+use Rattle.std.proofs.Common.{ℕ, ◌≡◌, ap, Result, Ok, Err, true, false, not, length, eq-eqb, ne_eqb}
+use Rattle.rules.specs.Answers.{ef, code_number, Outcome}
 use Rattle.rules.specs.Words.{Bytes}
+use Rattle.rules.specs.Table.{store, record_form}
 use Rattle.rules.specs.Sound.{sound_table}
 use Rattle.rules.specs.Calls.{wrong_bytes}
+use Rattle.rules.specs.Source.{refused_reply, Reply}
 use Rattle.soundness.specs.Soundness.{soundness_of}
 use Rattle.rules.specs.declared.Refusal.{Refusal as Code}
-use Rattle.soundness.proofs.Whole.{sound-table, sound-count, unsound-table, unsound-code}
-use Rattle.results.specs.Results.{SoundWith}
+use Rattle.results.specs.Results.{Gives}
+use Rattle.soundness.proofs.Whole.{sound-form, sound-table, sound-count, unsound-table, unsound-code}
 
 module _ (n : ℕ) (bs : Bytes) where
   pub wrong-bytes : (length bs ≡ n → ⊥) → wrong_bytes n bs ≡ true
@@ -34,5 +32,18 @@ module _ (t : Bytes) {r : Result ℕ Code} (e : r ≡ soundness_of t) where
     pub is-sound : not (sound_table t) ≡ false
     is-sound = ap not (sound-table t e h)
 
-    pub sound-with : SoundWith t n
-    sound-with = record { sound = sound-table t e h; count = sound-count t e h }
+    pub sound : sound_table t ≡ true
+    sound = sound-table t e h
+
+    -- so what was lent is a table of the record form, with that many records
+    pub is-form : record_form t ≡ true
+    is-form = sound-form t sound
+
+    pub is-count : n ≡ length (store t)
+    is-count = sound-count t e h
+
+-- a call that is refused since the table is not sound, where its row answers 66 ef
+pub unsound-refused : (t : Bytes) {r : Result ℕ Code} → r ≡ soundness_of t → {code : Code} → r ≡ Err code
+    → {o : Outcome} {reply : Reply} {t' : Bytes} → reply ≡ Err code
+    → (not (sound_table t) ≡ true → Gives o (refused_reply (code_number ef)) t') → Gives o reply t'
+unsound-refused t e h is gives = rw (is, its-code t e h) (gives (not_sound t e h))

@@ -1,7 +1,7 @@
 -- Set-up's row up to the sizes: each return of the code is a place in it.
 use Prim.Native.Nat.{◌%◌, ◌≤◌, ◌<◌}
 use mathlib.Core.Path.{◌≡◌, ap}
-use mathlib.Core.Bool.{false, not}
+use mathlib.Core.Bool.{true, false, not}
 use lib.ListN.{length}
 use borrow.Author.Tests.{eq-eqb, ne_eqb, le-leb, lt-leb}
 use Rattle.rules.specs.Words.{Bytes, key_bytes, address_bytes}
@@ -11,7 +11,7 @@ use Rattle.rules.specs.Calls.{set_up_row, set_up}
 use Rattle.rules.specs.Source.{refused_reply, Reply}
 use Rattle.results.specs.Results.{Gives}
 use Rattle.results.proofs.Rows.{refusal, refuses, passes}
-use Rattle.starting.specs.Starting.{RightSizes, set_up_on_sizes}
+use Rattle.starting.specs.Starting.{set_up_on_sizes}
 use Rattle.kernel.proofs.FirstChecks.{wrong-bytes, right-bytes}
 
 module _ (t k a ka : Bytes) where
@@ -51,15 +51,9 @@ module _ (t k a ka : Bytes) where
           too_long h = misfit (unfold length_fits in rw (eq-eqb (length t % record_size) 0 whole, lt-leb (length t) greatest_table h))
 
           module _ (short : length t ≤ greatest_table) where
-            pub right-sizes : RightSizes t k a ka
+            pub fits : length_fits t ≡ true
             unfolding length_fits
-            right-sizes =
-                record {
-                  fits = rw (eq-eqb (length t % record_size) 0 whole) (le-leb (length t) greatest_table short);
-                  key_size = key;
-                  address_size = address;
-                  kernel_size = kernel;
-                }
+            fits = rw (eq-eqb (length t % record_size) 0 whole) (le-leb (length t) greatest_table short)
 
             pub sizes-right : {r : Reply} {t' : Bytes} → Gives (outcome t (set_up_on_sizes t k a ka)) r t' → Gives (set_up t k a ka) r t'
             unfolding set_up set_up_row
@@ -68,6 +62,6 @@ module _ (t k a ka : Bytes) where
                   passes (right-bytes key_bytes k key),
                   passes (right-bytes address_bytes a address),
                   passes (right-bytes address_bytes ka kernel),
-                  passes (ap not right-sizes.fits),
+                  passes (ap not fits),
                 )
                 g

@@ -1,7 +1,7 @@
 #![tactic(auto)]
 // A key of the table judged: whether it is one of kernel storage, and what its parts are.
-ghost use Rattle.std.specs.Prelude.{◌≡◌, length};
-ghost use Rattle.rules.specs.Words.{word_bytes, num};
+ghost use Rattle.std.specs.Prelude.{◌≡◌};
+ghost use Rattle.rules.specs.Words.{num};
 ghost use Rattle.rules.specs.KernelStorage.{in_kernel_storage, end_second, end_third};
 ghost use Rattle.keys.specs.Keys.{MiddleOf, end_first};
 
@@ -13,38 +13,34 @@ pub const MIDDLE_AT: usize = 5;
 pub const END_AT: usize = 29;
 
 // Whether a key is one of kernel storage: its first four bytes decide.
-pub fn in_kernel_storage(key: &[u8]) -> bool
-    requires { length key.now ≡ word_bytes }
+pub fn in_kernel_storage(key: &[u8; rules::WORD_BYTES]) -> bool
     ensures { result ≡ in_kernel_storage (num key.now) }
 {
     key.starts_with(&rules::KERNEL_MARK)
 }
 
 // The middle, as a part of the key.
-pub fn middle_of(key: &[u8]) -> &[u8]
-    requires { length key.now ≡ word_bytes }
+pub fn middle_of(key: &[u8; rules::WORD_BYTES]) -> &[u8; rules::KEY_BYTES]
     ensures { MiddleOf (num key.now) result.now }
 {
-    &key[MIDDLE_AT..END_AT]
+    key[MIDDLE_AT..END_AT].as_array().unwrap()
 }
 
-// The three bytes of the end. Each has the rules' name for it, and is one byte read: a function behind the three would be no plainer.
-pub fn end_first(key: &[u8]) -> u8
-    requires { length key.now ≡ word_bytes }
+// The three bytes of the end. Each has the rules' name for it, and is one byte read: a function behind the three would be no
+// plainer.
+pub fn end_first(key: &[u8; rules::WORD_BYTES]) -> u8
     ensures { result ≡ end_first (num key.now) }
 {
     key[END_AT]
 }
 
-pub fn end_second(key: &[u8]) -> u8
-    requires { length key.now ≡ word_bytes }
+pub fn end_second(key: &[u8; rules::WORD_BYTES]) -> u8
     ensures { result ≡ end_second (num key.now) }
 {
     key[END_AT + 1]
 }
 
-pub fn end_third(key: &[u8]) -> u8
-    requires { length key.now ≡ word_bytes }
+pub fn end_third(key: &[u8; rules::WORD_BYTES]) -> u8
     ensures { result ≡ end_third (num key.now) }
 {
     key[END_AT + 2]

@@ -17,7 +17,7 @@ pub fn limb(bytes: &[u8], at: usize) -> u64
     requires { at + limb_bytes ≤ length bytes.now }
     ensures { Limb bytes.now at result }
 {
-    u32::from_be_bytes(array_at(bytes, at)) as u64
+    u64::from(u32::from_be_bytes(array_at(bytes, at)))
 }
 
 // The number of the eight bytes at an offset.

@@ -12,9 +12,10 @@ use Rattle.laws.proofs.Bools.{tests-true}
 use Rattle.laws.proofs.TableRecords.{formed}
 use Rattle.words.specs.Words.{small_limit}
 use Rattle.slots.specs.Slots.{KeyOf}
-use Rattle.holding.specs.Holding.{Readable, WordOf}
+use Rattle.holding.specs.Holding.{WordOf}
+use Rattle.finding.specs.declared.Records.{Records}
 use Rattle.key_words.specs.KeyWords.{KeyPart}
-use Rattle.listing.specs.Listings.{Occupied, Listing}
+use Rattle.listing.specs.Listings.{Listing}
 use Rattle.key_words.proofs.KeyWords.{key-number}
 
 pub at_slot : (s : Store) {slot : ℕ} {key w : Bytes} → KeyOf slot key → WordOf (get s (num key)) w → num w ≡ get s slot
@@ -31,39 +32,38 @@ unfolding count_of
 count-named s p kind q = rw q
 
 -- a table has at most 1,024 records
-pub few : {t : Bytes} {used : ℕ} → Occupied t used → used ≤ 1024
-few {t} o = let f = formed t o.form in omega (arith, f.few, f.fits, o.count)
-
-pub occupied : {t : Bytes} {used places : ℕ} → Listing t used places → Occupied t used
-occupied l = record { form = l.form; count = l.count }
-
-pub readable : {t procedure : Bytes} {used : ℕ} → Readable t used procedure → Occupied t used
-readable r = record { form = r.form; count = r.count }
+pub few : (table : Records) → table.used ≤ 1024
+few table = let f = formed table.bytes.now table.form in omega (arith, f.few, f.fits, table.count)
 
 -- the test for a listed key, by what `small` gives for its index
-module _ {t : Bytes} {used places : ℕ} (l : Listing t used places) (p : ℕ) {i : ℕ} (e : i ≡ min (get (store t) (index_slot p)) small_limit) where
-  index : i ≡ min (index_of (store t) p) small_limit
+module _ {table : Records} {places : ℕ} (l : Listing table places) (p : ℕ) {i : ℕ}
+    (e : i ≡ min (get (store table.bytes.now) (index_slot p)) small_limit) where
+  index : i ≡ min (index_of (store table.bytes.now) p) small_limit
   unfolding index_of
   index = e
 
-  pub no_index : i < 1 → false ≡ listed (store t) p
+  pub no_index : i < 1 → false ≡ listed (store table.bytes.now) p
   unfolding listed
-  no_index h = rw (lt-leb 1 (index_of (store t) p) (omega (arith, index)))
+  no_index h = rw (lt-leb 1 (index_of (store table.bytes.now) p) (omega (arith, index)))
 
-  pub index-beyond : places < i → false ≡ listed (store t) p
+  pub index-beyond : places < i → false ≡ listed (store table.bytes.now) p
   unfolding listed
   index-beyond h =
       let all = l.all in
-      rw (le-leb 1 (index_of (store t) p) (omega (arith, index)), lt-leb (index_of (store t) p) (list_length (store t)) (omega (arith, index)))
+      let some = le-leb 1 (index_of (store table.bytes.now) p) (omega (arith, index)) in
+      let beyond = lt-leb (index_of (store table.bytes.now) p) (list_length (store table.bytes.now)) (omega (arith, index)) in
+      rw (some, beyond)
 
-  pub index-inside : 1 ≤ i → i ≤ places → {key w : Bytes} → KeyOf (place_slot i) key → WordOf (get (store t) (num key)) w
-      → {r : Bool} → r ≡ eqb (num w) p → r ≡ listed (store t) p
+  pub index-inside : 1 ≤ i → i ≤ places → {key w : Bytes} → KeyOf (place_slot i) key
+      → WordOf (get (store table.bytes.now) (num key)) w
+      → {r : Bool} → r ≡ eqb (num w) p → r ≡ listed (store table.bytes.now) p
   unfolding listed key_at
   index-inside h g k v q =
       let all = l.all in
-      let short = few (occupied l) in
-      let here : index_of (store t) p ≡ i = omega (arith, index, l.short) in
-      rw (here, le-leb 1 i h, le-leb i (list_length (store t)) (omega arith)) (q ∙ ap (λ (x : ℕ). eqb x p) (at_slot (store t) k v))
+      let short = few table in
+      let here : index_of (store table.bytes.now) p ≡ i = omega (arith, index, l.short) in
+      rw (here, le-leb 1 i h, le-leb i (list_length (store table.bytes.now)) (omega arith))
+      (q ∙ ap (λ (x : ℕ). eqb x p) (at_slot (store table.bytes.now) k v))
 
 -- a key in a word: the last 24 bytes stand for it
 module _ {x : ℕ} {w : Bytes} (v : WordOf x w) {a : Bool} (e : a ≡ is_key (num w)) where

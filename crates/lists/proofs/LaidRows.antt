@@ -1,15 +1,17 @@
 -- A table whose list is laid out: the n-th place is the n-th record behind the list length, so its key is read there.
 use Rattle.std.proofs.Common.{ℕ, zero, suc, ◌+◌, ◌*◌, ◌-◌, ◌≤◌, ◌<◌, arith, ◌≡◌, refl, sym, ap, ◌∙◌, List, [], ◌∷◌, true, length, drop, drop-drop}
-use Rattle.rules.specs.Words.{Bytes, word_at}
+use Rattle.rules.specs.Words.{word_at}
 use Rattle.rules.specs.Table.{Record, Store, get, store}
 use Rattle.rules.specs.KernelStorage.{length_slot, place_slot}
 use Rattle.rules.specs.Procedures.{list_length, key_at}
 use Rattle.laws.proofs.Bools.{tests-true}
-use Rattle.laws.proofs.TableRecords.{record-at, formed, formed-within}
+use Rattle.laws.proofs.TableRecords.{record-at, formed}
 use Rattle.walks.specs.Walks.{keys_from, keys_are, before_list, places_left, list_form}
 use Rattle.walks.proofs.Behind.{record-holds}
-use Rattle.listing.specs.Listings.{Occupied}
+use Rattle.finding.specs.declared.Records.{Records}
+use Rattle.listing.proofs.Lookups.{few}
 use Rattle.lists.specs.Lists.{Laid}
+use Rattle.lists.proofs.ListRows.{within}
 
 -- the i-th record has the i-th key
 keys-at : (i : ℕ) (s : Store) (ks : List ℕ) {r : Record} {rest : Store} {k : ℕ} {more : List ℕ} → keys_are s ks ≡ true
@@ -48,36 +50,43 @@ module _ (s : Store) (q : list_form s ≡ true) where
   unfolding list_form
   form-keys = search tests-true
 
-module _ {t : Bytes} {used list : ℕ} (o : Occupied t used) (b : list ≡ before_list (store t)) (q : list_form (store t) ≡ true) where
-  pub laid-room : list + 4 < used
-  laid-room = omega (arith, b, o.count, form-room (store t) q)
+module _ (table : Records) {list : ℕ} (b : list ≡ before_list (store table.bytes.now))
+    (q : list_form (store table.bytes.now) ≡ true) where
+  pub laid-room : list + 4 < table.used
+  laid-room = omega (arith, b, table.count, form-room (store table.bytes.now) q)
 
-  pub is-laid : Laid t list (used - list - 4)
+  pub is-laid : Laid table list (table.used - list - 4)
   unfolding places_left
-  is-laid = record { form = o.form; before = b; all = omega (arith, b, o.count, form-length (store t) q); rows = q }
+  is-laid = record { before = b; all = omega (arith, b, table.count, form-length (store table.bytes.now) q); rows = q }
 
-module _ {t : Bytes} {list places : ℕ} (l : Laid t list places) where
-  pub laid-count : list + places + 4 ≡ length (store t)
+module _ {table : Records} {list places : ℕ} (l : Laid table list places) where
+  pub laid-count : list + places + 4 ≡ table.used
   unfolding places_left
-  laid-count = omega (arith, l.before, l.all, form-length (store t) l.rows, form-room (store t) l.rows)
+  laid-count =
+      let room = form-room (store table.bytes.now) l.rows in
+      omega (arith, table.count, l.before, l.all, form-length (store table.bytes.now) l.rows, room)
 
-  pub laid-within : 64 * (list + places + 4) ≤ length t
-  laid-within = omega (arith, laid-count, formed-within t l.form)
+  pub laid-within : 64 * (list + places + 4) ≤ length table.bytes.now
+  laid-within = omega (arith, laid-count, within table)
 
   pub laid-small : list + places + 4 ≤ 1024
-  laid-small = let f = formed t l.form in omega (arith, laid-count, f.fits, f.few)
+  laid-small = omega (arith, laid-count, few table)
 
   -- the key of the record behind j others and the list length
-  laid-key : (j : ℕ) → j < places → {r : Record} {rest : Store} → drop (list + suc j) (store t) ≡ r ∷ rest → r.key ≡ place_slot (suc j)
+  laid-key : (j : ℕ) → j < places → {r : Record} {rest : Store} → drop (list + suc j) (store table.bytes.now) ≡ r ∷ rest
+      → r.key ≡ place_slot (suc j)
   laid-key j h q =
-      let there = drop-drop (suc j) (before_list (store t)) (store t) ∙ ap (λ (n : ℕ). drop (n + suc j) (store t)) (sym l.before) ∙ q in
-      let within : j < places_left (store t) = omega (arith, l.all, form-length (store t) l.rows) in
+      let there = drop-drop (suc j) (before_list (store table.bytes.now)) (store table.bytes.now)
+      ∙ ap (λ (n : ℕ). drop (n + suc j) (store table.bytes.now)) (sym l.before) ∙ q in
+      let within : j < places_left (store table.bytes.now) = omega (arith, l.all, form-length (store table.bytes.now) l.rows) in
       let next : 1 + j ≡ suc j = omega arith in
-      keys-at (suc j) _ _ (form-keys (store t) l.rows) there (place-key j 1 (places_left (store t)) within) ∙ ap place_slot next
+      keys-at (suc j) _ _ (form-keys (store table.bytes.now) l.rows) there
+      (place-key j 1 (places_left (store table.bytes.now)) within) ∙ ap place_slot next
 
-  pub place_at : (n : ℕ) → 1 ≤ n → n ≤ places → key_at (store t) n ≡ word_at t (64 * (list + n) + 32)
+  pub place_at : (n : ℕ) → 1 ≤ n → n ≤ places → key_at (store table.bytes.now) n ≡ word_at table.bytes.now (64 * (list + n) + 32)
   unfolding key_at
   place_at zero one last = absurd (omega arith)
   place_at (suc j) one last =
-      let stands = (record-at t (list + suc j) (omega (arith, laid-count))).here in
-      ap (get (store t)) (sym (laid-key j last stands)) ∙ record-holds 0 (store t) (list + suc j) _ _ (formed t l.form).ascends stands
+      let stands = (record-at table.bytes.now (list + suc j) (omega (arith, laid-count, table.count))).here in
+      ap (get (store table.bytes.now)) (sym (laid-key j last stands))
+      ∙ record-holds 0 (store table.bytes.now) (list + suc j) _ _ (formed table.bytes.now table.form).ascends stands

@@ -1,12 +1,9 @@
 -- What a type's number says. A number that names a type has one kind, and what is asked of the kind is asked of the number.
-use Prim.Native.Nat.{ℕ}
-use native.Mathlib.Omega.{arith}
-use mathlib.Core.Path.{◌≡◌, refl, sym, ap, ◌∙◌}
-use mathlib.Core.Bool.{true, false, true≢false}
+use Rattle.std.proofs.Common.{ℕ, ◌+◌, ◌≤◌, arith, ◌≡◌, refl, sym, ap, ◌∙◌, true, false, true≢false, leb, ltb}
 use mathlib.Core.Option.{Option, none, some}
 use borrow.Author.Tests.{ne_eqb}
 use Rattle.rules.specs.Words.{Bytes}
-use Rattle.rules.specs.Capabilities.{Kind, number, kind_of}
+use Rattle.rules.specs.Capabilities.{Kind, call, register, delete, set_entry, write, number, kind_of}
 use Rattle.rules.specs.Messages.{named, kind_or_unknown, minimum, open_ended, overlong}
 use Rattle.rules.specs.Source.{is_type, minimum_of, open_ended_of}
 use Rattle.laws.proofs.KindFacts.{kind_of-number, kind_of-some}
@@ -17,6 +14,23 @@ use Rattle.messages.specs.declared.Named.TheVariants.{Null, Unknown, Of}
 pub minimum-number : (kind : Kind) → minimum_of (number kind) ≡ minimum kind
 unfolding minimum_of
 minimum-number kind = rw (kind_of-number kind, minimum_of)
+
+-- no type has a greater minimum than Register and Write
+pub minimum-bounded : (n : ℕ) → minimum_of n ≤ 96
+unfolding minimum_of minimum
+minimum-bounded n = go (kind_of n)
+  where
+    go : (o : Option Kind) → elim o as (λ _. ℕ) [ none ↦ 0 | some kind ↦ minimum kind ] ≤ 96
+    go none = omega arith
+    go (some call) = omega arith
+    go (some register) = omega arith
+    go (some delete) = omega arith
+    go (some set_entry) = omega arith
+    go (some write) = omega arith
+
+-- at least one byte more than the minimum is more than it
+pub one_more : (least bytes : ℕ) → leb (least + 1) bytes ≡ ltb least bytes
+one_more least bytes = ap (λ (x : ℕ). leb x bytes) (omega arith)
 
 open-ended-number : (kind : Kind) → open_ended_of (number kind) ≡ open_ended kind
 unfolding open_ended_of

@@ -27,11 +27,9 @@ pub fn named_by(m: &[u8]) -> Named
     if number == NULL {
         return Named::Null;
     }
-    let kind = Kind(number);
-    if kind.known() {
-        Named::Of(kind)
-    } else {
-        Named::Unknown
+    match Kind::try_from(number) {
+        Ok(kind) => Named::Of(kind),
+        Err(_) => Named::Unknown,
     }
 }
 

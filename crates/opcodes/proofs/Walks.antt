@@ -12,10 +12,7 @@ use lib.Seq.{drop-cons}
 use Rattle.rules.specs.Words.{Bytes}
 use Rattle.rules.specs.Validation.{allowed, data_bytes, walk}
 use Rattle.std.specs.List.{position, position_or_len}
-use Rattle.std.proofs.Common.{not, ◌||◌, ltb, ltb-true, ltb-false, cond, Option, Some, None, eqb, Bor, ⊎_elim}
-use Rattle.std.proofs.lemmas.Grind.{common_steps}
-use Rattle.std.specs.Option.{UnwrapsOrElse}
-use Rattle.std.specs.Slice.{IsGetRangeResult}
+use Rattle.std.proofs.Common.{not, ◌||◌, ltb, ltb-true, ltb-false, cond, Some, None, eqb}
 use Rattle.laws.proofs.Bools.{if-and, and_right}
 use Rattle.laws.proofs.WordParts.{rest_part}
 

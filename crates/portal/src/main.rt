@@ -7,12 +7,13 @@ ghost use Rattle.portal.specs.States.{Within};
 
 use std::io;
 use std::io::{Read, Write};
+use writing::Text;
 
 // The bytes of each buffer: as many as the longest table has.
 const BUFFER: usize = rules::GREATEST_TABLE;
 
-// The input's bytes from `start` to `end` are still to be answered. `long` says that they begin within a line that is too long already,
-// `more` that the input may not have ended: each of the two whatever the other is.
+// The input's bytes from `start` to `end` are still to be answered. `long` says that they begin within a line that is too long
+// already, `more` that the input may not have ended: each of the two whatever the other is.
 #[derive(Clone, Copy)]
 struct State {
     start: usize,
@@ -38,8 +39,8 @@ fn read_more<R: Read>(from: &mut R, input: &mut [u8], left: State) -> io::Result
     })
 }
 
-// Answers what is there, writes the answers, and reads more once no whole line is left: nobody waits for an answer while the program
-// waits for input.
+// Answers what is there, writes the answers, and reads more once no whole line is left: nobody waits for an answer while the
+// program waits for input.
 fn turn<R: Read, W: Write>(
     from: &mut R,
     to: &mut W,
@@ -52,8 +53,9 @@ fn turn<R: Read, W: Write>(
     ensures ok { IfOk result (λ s. Within s input.new) }
     ensures err { OnErr result (length input.new ≡ length input.old) }
 {
-    let fed = feeding::feed(t, &input[state.start..state.end], state.long, out);
-    to.write_all(&out[..fed.used])?;
+    let mut text = Text::new(out);
+    let fed = feeding::feed(t, &input[state.start..state.end], state.long, &mut text);
+    to.write_all(text.written())?;
     let left = State {
         start: state.start + fed.taken,
         end: state.end,
@@ -89,8 +91,9 @@ fn run<R: Read, W: Write>(
         }
         state = turn(from, to, t, input, out, state)?;
     }
-    let used = feeding::finish(t, &input[state.start..state.end], state.long, out);
-    to.write_all(&out[..used])
+    let mut text = Text::new(out);
+    feeding::finish(t, &input[state.start..state.end], state.long, &mut text);
+    to.write_all(text.written())
 }
 
 fn main(rt: HostRuntime) -> io::Result<()> {

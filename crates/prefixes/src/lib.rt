@@ -7,8 +7,8 @@ ghost use Rattle.rules.specs.Capabilities.{covers_key, within_prefix};
 ghost use Rattle.prefixes.specs.Prefixes.{KeyPart};
 
 // Whether the first s bits of two keys are equal: the whole bytes, and then what a mask leaves of the last partial one.
-pub fn same_first_bits(s: usize, a: &[u8], b: &[u8]) -> bool
-    requires { (s ≤ 8 * key_bytes) × (length a.now ≡ key_bytes) × (length b.now ≡ key_bytes) }
+pub fn same_first_bits(s: usize, a: &[u8; rules::KEY_BYTES], b: &[u8; rules::KEY_BYTES]) -> bool
+    requires { s ≤ 8 * key_bytes }
     ensures { result ≡ eqb (first_bits s (num a.now)) (first_bits s (num b.now)) }
 {
     let whole = s / 8;
@@ -26,35 +26,31 @@ fn same_part(part: usize, x: u8, y: u8) -> bool
 }
 
 // The prefix of a prefix capability, byte 0 of its word.
-pub fn prefix_of(capability: &[u8]) -> usize
-    requires { length capability.now ≡ word_bytes }
+pub fn prefix_of(capability: &[u8; rules::WORD_BYTES]) -> usize
     ensures { result ≡ prefix (num capability.now ∷ []) }
 {
-    capability[0] as usize
+    usize::from(capability[0])
 }
 
-// The last 24 bytes of a word: the base key of a prefix capability, or the key in a key word. (`key_words::key_part` lends the same bytes,
-// and promises their number; a caller cannot tell bytes from a number, so here the bytes themselves are promised.)
-pub fn key_part(word: &[u8]) -> &[u8]
-    requires { length word.now ≡ word_bytes }
+// The last 24 bytes of a word: the base key of a prefix capability, or the key in a key word. (`key_words::key_part` lends the
+// same bytes, and promises their number; a caller cannot tell bytes from a number, so here the bytes themselves are promised.)
+pub fn key_part(word: &[u8; rules::WORD_BYTES]) -> &[u8; rules::KEY_BYTES]
     ensures { KeyPart word.now result.now }
 {
-    &word[key_words::KEY_AT..]
+    word[key_words::KEY_AT..].as_array().unwrap()
 }
 
 // Whether a prefix capability covers a key: the key's first bits are those of the base.
-pub fn covers_key(capability: &[u8], key: &[u8]) -> bool
-    requires capability_len { (length capability.now ≡ word_bytes) × (length key.now ≡ key_bytes) }
-    requires capability_bound { prefix (num capability.now ∷ []) ≤ 8 * key_bytes }
+pub fn covers_key(capability: &[u8; rules::WORD_BYTES], key: &[u8; rules::KEY_BYTES]) -> bool
+    requires { prefix (num capability.now ∷ []) ≤ 8 * key_bytes }
     ensures { result ≡ covers_key (num capability.now ∷ []) (num key.now) }
 {
     same_first_bits(prefix_of(capability), key, key_part(capability))
 }
 
 // Whether b lies within a: its prefix is at least as long, and the bases are equal in the bits of a's prefix.
-pub fn within_prefix(b: &[u8], a: &[u8]) -> bool
-    requires b_len { (length b.now ≡ word_bytes) × (length a.now ≡ word_bytes) }
-    requires a_bound { prefix (num a.now ∷ []) ≤ 8 * key_bytes }
+pub fn within_prefix(b: &[u8; rules::WORD_BYTES], a: &[u8; rules::WORD_BYTES]) -> bool
+    requires { prefix (num a.now ∷ []) ≤ 8 * key_bytes }
     ensures { result ≡ within_prefix (num b.now ∷ []) (num a.now ∷ []) }
 {
     let a_prefix = prefix_of(a);

@@ -3,70 +3,71 @@
 ghost use Rattle.std.specs.Prelude.{◌+◌, ◌*◌, ◌≤◌, ◌≡◌, [], ◌∷◌, ◌++◌, length};
 ghost use Rattle.rules.specs.Answers.{code_bytes};
 ghost use Rattle.rules.specs.Program.{line_feed, space, decimal, spaced};
-ghost use Rattle.writing.specs.Wrote.{Wrote};
+ghost use Rattle.writing.specs.Wrote.{room, Wrote};
 ghost use Rattle.printing.specs.Printing.{printed_flag, printed_fields, printed_reply, other_line, fields_room, line_room};
 
-use rules::{Reply, Success};
+use rules::{Refusal, Reply, Success};
+use writing::Text;
 
 // Room for a line but its payload.
 pub const LINE_ROOM: usize = 68;
 
 // Bytes in hex after a space; nothing if there are none.
-fn put_spaced(out: &mut [u8], at: usize, bytes: &[u8]) -> usize
-    requires { at + (1 + 2 * length bytes.now) ≤ length out.old }
-    ensures wrote { Wrote out.old at (spaced bytes.now) result out.new }
-    ensures upper_bound { result ≤ at + (1 + 2 * length bytes.now) }
+fn put_spaced(text: &mut Text<'_>, bytes: &[u8])
+    requires { 1 + 2 * length bytes.now ≤ room text.old }
+    ensures wrote { Wrote text.old (spaced bytes.now) text.new }
+    ensures upper_bound { text.new.end ≤ text.old.end + (1 + 2 * length bytes.now) }
 {
     if bytes.is_empty() {
-        return at;
+        return;
     }
-    let end = writing::put(out, at, b' ');
-    writing::put_hex(out, end, bytes)
+    text.put(b' ');
+    text.put_hex(bytes);
 }
 
 // A code's one or two bytes in hex after a space.
-fn put_code(out: &mut [u8], at: usize, code: u16) -> usize
-    requires { at + 5 ≤ length out.old }
-    ensures wrote { Wrote out.old at (spaced (code_bytes code)) result out.new }
-    ensures upper_bound { result ≤ at + 5 }
+fn put_code(text: &mut Text<'_>, refusal: Refusal)
+    requires { 5 ≤ room text.old }
+    ensures wrote { Wrote text.old (spaced (code_bytes refusal.0)) text.new }
+    ensures upper_bound { text.new.end ≤ text.old.end + 5 }
 {
-    let first = writing::put(out, at, b' ');
-    if code < 256 {
-        writing::put_byte(out, first, code as u8)
-    } else {
-        writing::put_hex(out, first, &code.to_be_bytes())
-    }
+    let code = refusal.0.to_be_bytes();
+    let unused = code.len() - usize::from(refusal.code_len());
+    text.put(b' ');
+    text.put_hex(&code[unused..]);
 }
 
 // A number in decimal after a space.
-fn put_number(out: &mut [u8], at: usize, n: u64) -> usize
-    requires { at + 21 ≤ length out.old }
-    ensures wrote { Wrote out.old at (space ∷ decimal n) result out.new }
-    ensures upper_bound { result ≤ at + 21 }
+fn put_number(text: &mut Text<'_>, n: u64)
+    requires { 21 ≤ room text.old }
+    ensures wrote { Wrote text.old (space ∷ decimal n) text.new }
+    ensures upper_bound { text.new.end ≤ text.old.end + 21 }
 {
-    let end = writing::put(out, at, b' ');
-    decimals::put_decimal(out, end, n)
+    text.put(b' ');
+    decimals::put_decimal(text, n);
 }
 
 // The fields after the flag.
-fn put_fields(out: &mut [u8], at: usize, reply: Reply, payload: &[u8]) -> usize
-    requires { at + fields_room (length payload.now) ≤ length out.old }
-    ensures wrote { Wrote out.old at (printed_fields reply payload.now) result out.new }
-    ensures upper_bound { result ≤ at + fields_room (length payload.now) }
+#[tactic(auto, unfolding(crate::specs::Printing::printed_fields), using(writing::proofs::Texts::wrote_none))]
+fn put_fields(text: &mut Text<'_>, reply: Reply, payload: &[u8])
+    requires { fields_room (length payload.now) ≤ room text.old }
+    ensures wrote { Wrote text.old (printed_fields reply payload.now) text.new }
+    ensures upper_bound { text.new.end ≤ text.old.end + fields_room (length payload.now) }
 {
     match reply {
-        Ok(Success::Done) => at,
+        Ok(Success::Done) => {}
         Ok(Success::Called(address)) => {
-            let end = put_spaced(out, at, &address);
-            put_spaced(out, end, payload)
+            put_spaced(text, &address);
+            put_spaced(text, payload)
         }
-        Ok(Success::Registered(tests)) => put_number(out, at, tests),
-        Ok(Success::Looked(value)) => put_spaced(out, at, &value),
-        Err(refusal) => put_code(out, at, refusal.0),
+        Ok(Success::Registered(tests)) => put_number(text, tests),
+        Ok(Success::Looked(value)) => put_spaced(text, &value),
+        Err(refusal) => put_code(text, refusal),
     }
 }
 
 // The flag.
+#[tactic(auto, unfolding(crate::specs::Printing::printed_flag))]
 fn flag(reply: Reply) -> u8
     ensures { result ≡ printed_flag reply }
 {
@@ -77,20 +78,21 @@ fn flag(reply: Reply) -> u8
 }
 
 // A reply's line, with the payload that belongs to it.
-pub fn print(out: &mut [u8], at: usize, reply: Reply, payload: &[u8]) -> usize
-    requires { at + line_room (length payload.now) ≤ length out.old }
-    ensures { Wrote out.old at (printed_reply reply payload.now ++ (line_feed ∷ [])) result out.new }
+pub fn print(text: &mut Text<'_>, reply: Reply, payload: &[u8])
+    requires { line_room (length payload.now) ≤ room text.old }
+    ensures { Wrote text.old (printed_reply reply payload.now ++ (line_feed ∷ [])) text.new }
 {
-    let fields = writing::put(out, at, flag(reply));
-    let end = put_fields(out, fields, reply, payload);
-    writing::put(out, end, b'\n')
+    text.put(flag(reply));
+    put_fields(text, reply, payload);
+    text.put(b'\n');
 }
 
 // The line that is printed for a line without a message.
-pub fn print_other(out: &mut [u8], at: usize) -> usize
-    requires { at + 2 ≤ length out.old }
-    ensures { Wrote out.old at other_line result out.new }
+#[tactic(auto, unfolding(crate::specs::Printing::other_line), using(writing::proofs::Texts::wrote_both))]
+pub fn print_other(text: &mut Text<'_>)
+    requires { 2 ≤ room text.old }
+    ensures { Wrote text.old other_line text.new }
 {
-    let feed = writing::put(out, at, b'?');
-    writing::put(out, feed, b'\n')
+    text.put(b'?');
+    text.put(b'\n');
 }

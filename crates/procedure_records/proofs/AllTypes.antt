@@ -1,7 +1,5 @@
 -- The loop over the types: the counts and capabilities of the types from an index on are left to store.
-use Rattle.std.proofs.Common.{ℕ, zero, suc, ◌+◌, ◌≤◌, ◌<◌, ◌≡◌, refl, sym, ap, ◌∙◌, List, [], ◌∷◌, ◌++◌, length, drop, false}
-use lib.ListN.{get_or}
-use native.Mathlib.Omega.{arith}
+use Rattle.std.proofs.Common.{ℕ, zero, suc, ◌+◌, ◌≤◌, ◌<◌, arith, ◌≡◌, refl, sym, ap, ◌∙◌, List, [], ◌∷◌, ◌++◌, length, drop, false, get_or}
 use Rattle.rules.specs.Words.{Bytes, num}
 use Rattle.rules.specs.Table.{Record, ◌holds◌, put, puts, room, store}
 use Rattle.rules.specs.KernelStorage.{count_slot}
@@ -12,34 +10,21 @@ use Rattle.rules.specs.Calls.{capability_records, kind_records, too_many}
 use Rattle.laws.proofs.SeriesRequests.{requests-storable}
 use Rattle.words.specs.Words.{Holds}
 use Rattle.slots.specs.Slots.{KeyOf}
-use Rattle.storing.specs.Storing.{Stored}
+use Rattle.storing.specs.Storing.{Became}
+use Rattle.storing.specs.declared.table.Table.{Table}
 use Rattle.requests.specs.Requests.{WellFormedFrom}
 use Rattle.series.specs.Series.{requested_counts}
 use Rattle.series.proofs.Counted.{requested-at}
 use Rattle.capability_records.specs.CapabilityRecords.{KindNeeds, KindStored}
-use Rattle.capability_records.proofs.Left.{Left, left-all, left-none, left-takes, left_after, left-ready, left-put}
-use Rattle.procedure_records.specs.ProcedureRecords.{KindsNeeds}
+use Rattle.capability_records.proofs.Left.{Left, left-none, left-takes, left_after, left-ready, left-put}
 
-pub record StoringKinds (t₀ procedure d : Bytes) (counts : List ℕ) (t : Bytes) (stored i : ℕ) : Type 0 where
+pub record StoringKinds (before now : Table) (p : ℕ) (d : Bytes) (counts : List ℕ) (i : ℕ) : Type 0 where
   pub high : i ≤ 5
-  pub key : length procedure ≡ 24
   pub well_formed : WellFormedFrom d series_at
   pub few : too_many (requests d) ≡ false
   pub counted : counts ≡ requested_counts (requests d)
-  pub left : Left (length t₀) t stored (kind_records (num procedure) (requests d) (drop i kinds))
-      (puts (store t₀) (kind_records (num procedure) (requests d) kinds))
-
-pub kinds-start : {t procedure d : Bytes} {used : ℕ} {counts : List ℕ} → KindsNeeds t used procedure d → counts ≡ requested_counts (requests d)
-    → StoringKinds t procedure d counts t used 0
-kinds-start need e =
-    record {
-      high = omega arith;
-      key = need.key;
-      well_formed = need.well_formed;
-      few = need.few;
-      counted = e;
-      left = left-all need.takes;
-    }
+  pub left : Left before now (kind_records p (requests d) (drop i kinds))
+      (puts (store before.bytes.now) (kind_records p (requests d) kinds))
 
 -- the type at an index of all of them, by its number
 pub record TypeAt (i n : ℕ) : Type 0 where
@@ -60,63 +45,58 @@ type-at (suc (suc (suc zero))) h = record { kind = set_entry; names = refl; here
 type-at (suc (suc (suc (suc zero)))) h = record { kind = write; names = refl; here = refl }
 type-at (suc (suc (suc (suc (suc i))))) h = absurd (omega arith)
 
--- the count of the type with number n is stored next, and then its capabilities
-module _ {t₀ procedure d : Bytes} {counts : List ℕ} {t : Bytes} {stored i n : ℕ} {slot count : Bytes}
-    (w : StoringKinds t₀ procedure d counts t stored i) (h : i < 5) (this : TypeAt i n)
-    (is : KeyOf (count_slot (num procedure) n) slot) (value : Holds 32 count (get_or counts n 0)) where
-  abbrev p : ℕ
-  p = num procedure
-
+-- the count of the type with number n, which stands at m, is stored next, and then its capabilities
+module _ {before now : Table} {p : ℕ} {d : Bytes} {counts : List ℕ} {i n m : ℕ} {slot count : Bytes}
+    (w : StoringKinds before now p d counts i) (h : i < 5) (this : TypeAt i n) (at : m ≡ n)
+    (is : KeyOf (count_slot p n) slot) (value : Holds 32 count (get_or counts m 0)) where
   abbrev rs : List Request
   rs = requests d
 
   abbrev capabilities : List Record
   capabilities = capability_records p this.kind 1 (requested_of this.kind rs)
 
-  abbrev later : List Record
-  later = kind_records p rs (drop (i + 1) kinds)
+  abbrev later_kinds : List Record
+  later_kinds = kind_records p rs (drop (i + 1) kinds)
 
-  counts-n : get_or counts n 0 ≡ length (requested_of this.kind rs)
-  counts-n =
-      ap (λ (cs : List ℕ). get_or cs n 0) w.counted
-      ∙ ap (λ (m : ℕ). get_or (requested_counts rs) m 0) (sym this.names)
+  many : get_or counts m 0 ≡ length (requested_of this.kind rs)
+  many =
+      ap (λ (cs : List ℕ). get_or cs m 0) w.counted
+      ∙ ap (λ (j : ℕ). get_or (requested_counts rs) j 0) (at ∙ sym this.names)
       ∙ requested-at rs this.kind
 
-  split : kind_records p rs (drop i kinds) ≡ count_slot p n holds get_or counts n 0 ∷ (capabilities ++ later)
+  split : kind_records p rs (drop i kinds) ≡ count_slot p n holds get_or counts m 0 ∷ (capabilities ++ later_kinds)
   unfolding kind_records
-  split = ap (kind_records p rs) this.here ∙ rw (this.names, counts-n)
+  split = ap (kind_records p rs) this.here ∙ rw (this.names, many)
 
-  pub kinds-room : length (put (store t) (num slot) (num count)) ≤ room t
-  kinds-room = (left-ready w.left split is value).1.1.1
+  pub kinds-room : length (put (store now.bytes.now) (num slot) (num count)) ≤ room now.bytes.now
+  kinds-room = left-ready w.left split is value
 
-  module _ {t₁ : Bytes} {stored₁ : ℕ} (s : Stored (length t) t₁ stored₁ (put (store t) (num slot) (num count))) where
-    middle : Left (length t₀) t₁ stored₁ (capabilities ++ later) (puts (store t₀) (kind_records p rs kinds))
+  module _ {counted : Table} (s : Became now counted (put (store now.bytes.now) (num slot) (num count))) where
+    middle : Left before counted (capabilities ++ later_kinds) (puts (store before.bytes.now) (kind_records p rs kinds))
     middle = left-put w.left split is value s
 
-    pub kinds-kind : KindNeeds t₁ stored₁ procedure n (get_or counts n 0) d
+    pub kinds-kind : KindNeeds counted.bytes.now p n (get_or counts m 0) d
     kinds-kind =
         record {
           kind = this.kind;
           names = this.names;
-          key = w.key;
           well_formed = w.well_formed;
-          counted = counts-n;
-          few = omega (arith, counts-n, (requests-storable d w.few).few this.kind);
-          takes = left-takes middle capabilities later refl;
+          counted = many;
+          few = omega (arith, many, (requests-storable d w.few).few this.kind);
+          takes = left-takes middle capabilities later_kinds refl;
         }
 
-    pub kinds-turn : {t₂ : Bytes} {stored₂ : ℕ} → KindStored t₁ t₂ stored₂ p n d → StoringKinds t₀ procedure d counts t₂ stored₂ (i + 1)
+    pub kinds-turn : {later : Table} → KindStored counted later p n d → StoringKinds before later p d counts (i + 1)
     kinds-turn all =
         record {
           high = omega arith;
-          key = w.key;
           well_formed = w.well_formed;
           few = w.few;
           counted = w.counted;
-          left = left_after middle capabilities later refl (all this.kind this.names);
+          left = left_after middle capabilities later_kinds refl (all this.kind this.names);
         }
 
-pub kinds-end : {t₀ procedure d : Bytes} {counts : List ℕ} {t : Bytes} {stored i : ℕ} → StoringKinds t₀ procedure d counts t stored i → 5 ≤ i
-    → Stored (length t₀) t stored (puts (store t₀) (kind_records (num procedure) (requests d) kinds))
+pub kinds-end : {before now : Table} {p : ℕ} {d : Bytes} {counts : List ℕ} {i : ℕ} → StoringKinds before now p d counts i → 5 ≤ i
+    → Became before now (puts (store before.bytes.now) (kind_records p (requests d) kinds))
 unfolding kind_records
 kinds-end {i = i} w h = let last : i ≡ 5 = omega (arith, w.high) in left-none (rw last at w.left)

@@ -1,6 +1,6 @@
 -- A procedure's records, and what the functions that store them ask.
-use Rattle.std.specs.Prelude.{ℕ, ◌≡◌, List, [], ◌∷◌, ◌++◌, false, length}
-use Rattle.rules.specs.Words.{Bytes, key_bytes, word_bytes, num}
+use Rattle.std.specs.Prelude.{ℕ, ◌≡◌, List, [], ◌∷◌, ◌++◌, false}
+use Rattle.rules.specs.Words.{Bytes}
 use Rattle.rules.specs.Table.{Record, ◌holds◌}
 use Rattle.rules.specs.KernelStorage.{address_slot, index_slot}
 use Rattle.rules.specs.Capabilities.{kinds}
@@ -18,16 +18,13 @@ abbrev pub procedure_records : (place p a : ℕ) → List Request → List Recor
 procedure_records place p a rs = naming_records place p a ++ kind_records p rs kinds
 
 -- what is asked where all requested capabilities are stored
-pub record KindsNeeds (t : Bytes) (used : ℕ) (procedure d : Bytes) : Type 0 where
-  pub key : length procedure ≡ key_bytes
+pub record KindsNeeds (t : Bytes) (p : ℕ) (d : Bytes) : Type 0 where
   pub well_formed : WellFormedFrom d series_at
   pub few : too_many (requests d) ≡ false
-  pub takes : Takes t used (kind_records (num procedure) (requests d) kinds)
+  pub takes : Takes t (kind_records p (requests d) kinds)
 
 -- what is asked where a procedure's records are stored
-pub record ProcedureNeeds (t : Bytes) (used place : ℕ) (procedure address d : Bytes) : Type 0 where
-  pub key : length procedure ≡ key_bytes
-  pub word : length address ≡ word_bytes
+pub record ProcedureNeeds (t : Bytes) (place p a : ℕ) (d : Bytes) : Type 0 where
   pub well_formed : WellFormedFrom d series_at
   pub few : too_many (requests d) ≡ false
-  pub takes : Takes t used (procedure_records place (num procedure) (num address) (requests d))
+  pub takes : Takes t (procedure_records place p a (requests d))

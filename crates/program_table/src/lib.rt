@@ -4,8 +4,8 @@ ghost use Rattle.std.specs.Prelude.{◌≤◌, ◌≡◌, length};
 ghost use Rattle.rules.specs.Table.{greatest_table};
 ghost use Rattle.rules.specs.Program.{program_table};
 
-// "A program sets up a full-size table (key, address, kernel address all zero but last bytes 01, 11, 22)": whatever the table held.
-// The three arrays by hand: a function with their length as a const parameter is longer than what it replaces.
+// "A program sets up a full-size table (key, address, kernel address all zero but last bytes 01, 11, 22)": whatever the table
+// held. The three arrays by hand: a function with their length as a const parameter is longer than what it replaces.
 pub fn set_up(t: &mut [u8])
     requires { length t.old ≡ greatest_table }
     ensures { t.new ≡ program_table }

@@ -5,8 +5,11 @@ ghost use Rattle.rules.specs.Words.{word_bytes, num};
 ghost use Rattle.rules.specs.Capabilities.{covers_address, within_range};
 
 // Whether a Write capability, base a and additional n, covers an address: a ≤ x ≤ a + n.
-pub fn covers_address(a: &[u8], n: &[u8], x: &[u8]) -> bool
-    requires { (length a.now ≡ word_bytes) × (length n.now ≡ word_bytes) × (length x.now ≡ word_bytes) }
+pub fn covers_address(
+    a: &[u8; rules::WORD_BYTES],
+    n: &[u8; rules::WORD_BYTES],
+    x: &[u8; rules::WORD_BYTES],
+) -> bool
     ensures { result ≡ covers_address (num a.now ∷ num n.now ∷ []) (num x.now) }
 {
     within_range(x, &[0u8; rules::WORD_BYTES], a, n)
@@ -14,9 +17,12 @@ pub fn covers_address(a: &[u8], n: &[u8], x: &[u8]) -> bool
 
 // Whether the Write capability (b, m) lies within (a, n): a ≤ b and b + m ≤ a + n.
 #[tactic(auto, unfolding(rules::specs::Capabilities::within_range, rules::specs::Capabilities::word_of))]
-pub fn within_range(b: &[u8], m: &[u8], a: &[u8], n: &[u8]) -> bool
-    requires b_len { (length b.now ≡ word_bytes) × (length m.now ≡ word_bytes) }
-    requires a_len { (length a.now ≡ word_bytes) × (length n.now ≡ word_bytes) }
+pub fn within_range(
+    b: &[u8; rules::WORD_BYTES],
+    m: &[u8; rules::WORD_BYTES],
+    a: &[u8; rules::WORD_BYTES],
+    n: &[u8; rules::WORD_BYTES],
+) -> bool
     ensures { result ≡ within_range (num b.now ∷ num m.now ∷ []) (num a.now ∷ num n.now ∷ []) }
 {
     words::at_most(a, b) && words::sums_at_most(b, m, a, n)

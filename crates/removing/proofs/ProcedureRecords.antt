@@ -13,7 +13,7 @@ use Rattle.laws.proofs.TableRecords.{Formed, formed, formed-within}
 use Rattle.finding.specs.Finding.{keys_below}
 use Rattle.finding.proofs.Places.{below_or_not, below-past, below-here, below_none, below_length, ascending-drop}
 use Rattle.closing.specs.Closing.{closed}
-use Rattle.storing.specs.Storing.{Stored}
+use Rattle.storing.proofs.Stored.{Stored}
 use Rattle.storing.proofs.Cuts.{closed_is}
 use Rattle.storing.proofs.Puts.{Words, held}
 

@@ -1,15 +1,15 @@
 #![tactic(auto)]
 // The struct that the library returns: a host gets one struct of plain numbers and bytes back, and the payload of a Call stays in
 // the host's own message, where the struct says.
-ghost use Rattle.std.specs.Prelude.{◌≡◌, length};
+ghost use Rattle.std.specs.Prelude.{◌≡◌};
 ghost use Rattle.rules.specs.Answers.{code_bytes};
 ghost use Rattle.replies.specs.Exports.{padded};
 ghost use Rattle.replies.specs.Parts.{struct_of};
 
-use rules::Success;
+use rules::{Refusal, Success};
 
-// What a call answers. A field that the answer does not name is zero. Of the code the first `code_len` bytes count; the payload is
-// the `payload_len` bytes of the message from `payload_at` on.
+// What a call answers. A field that the answer does not name is zero. Of the code the first `code_len` bytes count; the payload
+// is the `payload_len` bytes of the message from `payload_at` on.
 #[repr(C)]
 #[derive(Clone, Copy, Debug, PartialEq, Eq)]
 pub struct Reply {
@@ -35,25 +35,20 @@ const DONE: Reply = Reply {
     code: [0, 0],
 };
 
-// How many bytes a code has.
-fn code_len(code: u16) -> u8
-    ensures { result ≡ length (code_bytes code) }
+// The bytes of a refusal's code, and zero behind a code of one.
+fn padded_code(refusal: Refusal) -> [u8; 2]
+    ensures { result ≡ padded (code_bytes refusal.0) }
 {
-    if code < 256 { 1 } else { 2 }
-}
-
-// The bytes of a code, and zero behind a code of one.
-fn padded_code(code: u16) -> [u8; 2]
-    ensures { result ≡ padded (code_bytes code) }
-{
-    if code < 256 {
-        [code as u8, 0]
+    let code = refusal.0.to_be_bytes();
+    if refusal.code_len() == 1 {
+        [code[1], 0]
     } else {
-        code.to_be_bytes()
+        code
     }
 }
 
 // The kernel's reply as the struct, with the length of the payload that a Call's has.
+#[tactic(auto, unfolding(crate::specs::Parts::struct_of))]
 pub fn laid_out(reply: rules::Reply, payload_len: usize) -> Reply
     ensures { result ≡ struct_of reply payload_len }
 {
@@ -69,8 +64,8 @@ pub fn laid_out(reply: rules::Reply, payload_len: usize) -> Reply
         Ok(Success::Looked(value)) => Reply { value, ..DONE },
         Err(refusal) => Reply {
             flag: 0,
-            code_len: code_len(refusal.0),
-            code: padded_code(refusal.0),
+            code_len: refusal.code_len(),
+            code: padded_code(refusal),
             ..DONE
         },
     }

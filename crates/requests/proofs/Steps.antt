@@ -1,23 +1,14 @@
--- The series from an offset on: after a good request it is the series from the next one on, and with a malformed one it is none.
+-- A series: behind a good first request it goes on with the rest, and with a malformed one it is none.
 -- Callers that loop over the requests start with `requests-start` and end with `requests-end`.
-use Prim.Native.Nat.{ℕ, zero, suc, ◌+◌, ◌*◌, ◌-◌, ◌/◌, ◌%◌, ◌≤◌, ◌<◌}
-use native.Mathlib.Omega.{arith}
-use mathlib.Core.Path.{◌≡◌, refl, sym, ap, ◌∙◌}
-use mathlib.Core.List.{List, [], ◌∷◌}
-use mathlib.Core.Bool.{true, false, true≢false}
-use mathlib.Core.Option.{Option, none, some}
-use lib.Dec.{eqb}
-use lib.ListN.{length, drop, length-drop, drop_of_length-le}
-use lib.Seq.{drop-drop}
-use borrow.Author.Tests.{eq-eqb, ne_eqb}
+use Rattle.std.proofs.Common.{ℕ, zero, suc, ◌+◌, ◌*◌, ◌/◌, ◌%◌, ◌≤◌, ◌<◌, ◌≡◌, ◌⊎◌, inl, inr, refl, sym, ap, ◌∙◌, List, [], ◌∷◌, length, drop, true, false, true≢false, eqb, arith, length-drop, drop-drop, eq-eqb, ne_eqb}
+use Rattle.std.proofs.Math.Option.{Option as Maybe, none, some}
 use Rattle.rules.specs.Words.{Bytes, word_at, words}
 use Rattle.rules.specs.Capabilities.{Kind, word_count}
 use Rattle.rules.specs.Messages.{Request, add_request, series_from, series, series_at, series_of, malformed, or_empty, requests}
 use Rattle.laws.proofs.Numbers.{same_or_not}
 use Rattle.laws.proofs.WordLists.{drop-words}
-use mathlib.Core.Logic.{◌⊎◌, inl, inr}
-use Rattle.requests.specs.Requests.{WellFormedFrom, requests_from, words_from, request_here}
-use Rattle.requests.proofs.Here.{Good, Judged, bad, good, request_of_kind, words-from, good-here, judge}
+use Rattle.requests.specs.Requests.{WellFormed, requests_in, words_in, first_request, request_of_kind}
+use Rattle.requests.proofs.Here.{Good, Judged, bad, good, words-first, good-here, judge}
 
 -- words that still belong to a request are dropped
 skips : (n : ℕ) (ws : List ℕ) → series_from n ws ≡ series_from 0 (drop n ws)
@@ -27,102 +18,95 @@ skips (suc n) [] = refl
 skips zero (w ∷ ws) = refl
 skips (suc n) (w ∷ ws) = skips n ws
 
-drop-from : (d : Bytes) (at k : ℕ) → at + 32 * k ≤ length d → drop k (words_from d at) ≡ words_from d (at + 32 * k)
-unfolding words_from
-drop-from d at k h =
-    let e : (length d - at) / 32 ≡ k + (length d - (at + 32 * k)) / 32 = omega arith in
-    ap (λ (n : ℕ). drop k (words n (drop at d))) e
-    ∙ drop-words k ((length d - (at + 32 * k)) / 32) (drop at d)
-    ∙ ap (words ((length d - (at + 32 * k)) / 32)) (drop-drop (32 * k) at d)
+drop-words_in : (k : ℕ) (bs : Bytes) → 32 * k ≤ length bs → drop k (words_in bs) ≡ words_in (drop (32 * k) bs)
+unfolding words_in
+drop-words_in k bs h =
+    let more = length-drop (32 * k) bs in
+    let e : length bs / 32 ≡ k + length (drop (32 * k) bs) / 32 = omega arith in
+    ap (λ (n : ℕ). drop k (words n bs)) e ∙ drop-words k (length (drop (32 * k) bs) / 32) bs
 
-module _ (d : Bytes) (at : ℕ) where
+module _ (rest : Bytes) where
   -- whole words, or none
-  series-whole : (length d - at) % 32 ≡ 0 → series (drop at d) ≡ series_from 0 (words_from d at)
-  unfolding series words_from
-  series-whole h =
-      let l = length-drop at d in
-      let e : eqb (length (drop at d) % 32) 0 ≡ true = eq-eqb (length (drop at d) % 32) 0 (rw l h) in
-      rw (e, series) (ap (λ (n : ℕ). series_from 0 (words (n / 32) (drop at d))) l)
+  series-whole : length rest % 32 ≡ 0 → series rest ≡ series_from 0 (words_in rest)
+  unfolding series words_in
+  series-whole h = let whole : eqb (length rest % 32) 0 ≡ true = eq-eqb _ _ h in rw (whole, series)
 
-  pub series-stray : ((length d - at) % 32 ≡ 0 → ⊥) → series (drop at d) ≡ none
+  pub series-stray : (length rest % 32 ≡ 0 → ⊥) → series rest ≡ none
   unfolding series
-  series-stray h =
-      let l = length-drop at d in
-      let e : eqb (length (drop at d) % 32) 0 ≡ false = ne_eqb (length (drop at d) % 32) 0 (λ q. h (rw l at q)) in
-      rw (e, series)
+  series-stray h = let stray : eqb (length rest % 32) 0 ≡ false = ne_eqb _ _ h in rw (stray, series)
 
-  series-first : at < length d → (length d - at) % 32 ≡ 0
-      → series (drop at d) ≡ series_from 0 (word_at d at ∷ words_from d (at + 32))
-  series-first l h = series-whole h ∙ ap (series_from 0) (words-from d at (omega arith))
+  series-first : 0 < length rest → length rest % 32 ≡ 0 → series rest ≡ series_from 0 (word_at rest 0 ∷ words_in (drop 32 rest))
+  series-first l h = series-whole h ∙ ap (series_from 0) (words-first rest (omega arith))
 
-  pub series-bad : at < length d → (length d - at) % 32 ≡ 0 → request_here d at ≡ none → series (drop at d) ≡ none
-  unfolding request_here series_from
+  pub series-bad : 0 < length rest → length rest % 32 ≡ 0 → first_request rest ≡ none → series rest ≡ none
+  unfolding first_request series_from
   series-bad l h e = series-first l h ∙ rw (e, series_from)
 
-module _ (d : Bytes) (at : ℕ) (kind : Kind) where
-  pub series-good : (length d - at) % 32 ≡ 0 → Good d at kind
-      → series (drop at d) ≡ add_request (request_of_kind d at kind) (series (drop (at + 64 + 32 * word_count kind) d))
-  unfolding request_here series_from
-  series-good h g =
-      let b = g.within in
-      let next : at + 32 + 32 * (1 + word_count kind) ≡ at + 64 + 32 * word_count kind = omega arith in
-      let rest : series_from (word_at d at) (words_from d (at + 32)) ≡ series (drop (at + 64 + 32 * word_count kind) d) =
-      ap (λ (n : ℕ). series_from n (words_from d (at + 32))) g.size
-      ∙ skips (1 + word_count kind) (words_from d (at + 32))
-      ∙ ap (series_from 0) (drop-from d (at + 32) (1 + word_count kind) (omega arith) ∙ ap (words_from d) next)
-      ∙ sym (series-whole d (at + 64 + 32 * word_count kind) (omega arith)) in
-      series-first d at (omega arith) h ∙ rw (good-here d at kind g, series_from) (ap (add_request (request_of_kind d at kind)) rest)
+pub series-good : (rest : Bytes) (kind : Kind) → length rest % 32 ≡ 0 → Good rest kind
+    → series rest ≡ add_request (request_of_kind rest kind) (series (drop (64 + 32 * word_count kind) rest))
+unfolding first_request series_from
+series-good rest kind h g =
+    let b = g.within in
+    let past_size = length-drop 32 rest in
+    let past = length-drop (64 + 32 * word_count kind) rest in
+    let next : 32 + 32 * (1 + word_count kind) ≡ 64 + 32 * word_count kind = omega arith in
+    let behind : drop (32 * (1 + word_count kind)) (drop 32 rest) ≡ drop (64 + 32 * word_count kind) rest =
+    drop-drop (32 * (1 + word_count kind)) 32 rest ∙ ap (λ (n : ℕ). drop n rest) next in
+    let others : series_from (word_at rest 0) (words_in (drop 32 rest)) ≡ series (drop (64 + 32 * word_count kind) rest) =
+    ap (λ (n : ℕ). series_from n (words_in (drop 32 rest))) g.size
+    ∙ skips (1 + word_count kind) (words_in (drop 32 rest))
+    ∙ ap (series_from 0) (drop-words_in (1 + word_count kind) (drop 32 rest) (omega arith) ∙ ap words_in behind)
+    ∙ sym (series-whole (drop (64 + 32 * word_count kind) rest) (omega arith)) in
+    series-first rest (omega arith) h
+    ∙ rw (good-here rest kind g, series_from) (ap (add_request (request_of_kind rest kind)) others)
 
 -- a well-formed series is whole words, and its first request is good
-pub data First (d : Bytes) (at : ℕ) : Type 0 where
-  first : (kind : Kind) → Good d at kind → First d at
+pub data First (rest : Bytes) : Type 0 where
+  first : (kind : Kind) → Good rest kind → First rest
 
-module _ (d : Bytes) (at : ℕ) (w : WellFormedFrom d at) where
-  not_none : series (drop at d) ≡ none → ⊥
+module _ (rest : Bytes) (w : WellFormed rest) where
+  not_none : series rest ≡ none → ⊥
   unfolding malformed
   not_none e = true≢false (sym (ap malformed e) ∙ w)
 
-  pub well-formed-whole : (length d - at) % 32 ≡ 0
-  well-formed-whole = go (same_or_not ((length d - at) % 32) 0)
+  pub well-formed-whole : length rest % 32 ≡ 0
+  well-formed-whole = go (same_or_not (length rest % 32) 0)
     where
-      go : ((length d - at) % 32 ≡ 0) ⊎ ((length d - at) % 32 ≡ 0 → ⊥) → (length d - at) % 32 ≡ 0
+      go : (length rest % 32 ≡ 0) ⊎ (length rest % 32 ≡ 0 → ⊥) → length rest % 32 ≡ 0
       go (inl e) = e
-      go (inr n) = absurd (not_none (series-stray d at n))
+      go (inr n) = absurd (not_none (series-stray rest n))
 
-  pub well-formed-first : at < length d → First d at
-  well-formed-first l = go (judge d at)
+  pub well-formed-first : 0 < length rest → First rest
+  well-formed-first l = go (judge rest)
     where
-      go : Judged d at → First d at
-      go (bad e) = absurd (not_none (series-bad d at l well-formed-whole e))
+      go : Judged rest → First rest
+      go (bad e) = absurd (not_none (series-bad rest l well-formed-whole e))
       go (good kind g) = first kind g
 
--- what follows a request of a well-formed series
-pub record Follows (d : Bytes) (at : ℕ) (r : Request) (next : ℕ) : Type 0 where
-  pub requests : requests_from d at ≡ r ∷ requests_from d next
-  pub rest : WellFormedFrom d next
+-- what follows the first request of a well-formed series
+pub record Follows (rest : Bytes) (r : Request) (behind : Bytes) : Type 0 where
+  pub requests : requests_in rest ≡ r ∷ requests_in behind
+  pub well_formed : WellFormed behind
 
-pub follows : (d : Bytes) (at : ℕ) (r : Request) (next : ℕ) → WellFormedFrom d at
-    → series (drop at d) ≡ add_request r (series (drop next d)) → Follows d at r next
-unfolding requests_from or_empty add_request malformed
-follows d at r next w e = go (series (drop next d)) refl
+pub follows : (rest : Bytes) (r : Request) (behind : Bytes) → WellFormed rest → series rest ≡ add_request r (series behind)
+    → Follows rest r behind
+unfolding requests_in or_empty add_request malformed
+follows rest r behind w e = go (series behind) refl
   where
-    go : (o : Option (List Request)) → series (drop next d) ≡ o → Follows d at r next
-    go none q = absurd (not_none d at w (e ∙ rw q))
-    go (some rs) q = record { requests = ap or_empty e ∙ rw q; rest = ap malformed q }
+    go : (o : Maybe (List Request)) → series behind ≡ o → Follows rest r behind
+    go none q = absurd (not_none rest w (e ∙ rw q))
+    go (some rs) q = record { requests = ap or_empty e ∙ rw q; well_formed = ap malformed q }
 
 -- where a loop over the requests starts and ends
-pub requests-start : (d : Bytes) → requests d ≡ requests_from d series_at
-unfolding requests series_of requests_from
+pub requests-start : (d : Bytes) → requests d ≡ requests_in (drop series_at d)
+unfolding requests series_of requests_in
 requests-start d = refl
 
-series-end : (d : Bytes) (at : ℕ) → length d ≤ at → series (drop at d) ≡ some []
+pub series-end : (rest : Bytes) → length rest ≤ 0 → series rest ≡ some []
 unfolding series series_from words
-series-end d at h = ap series (drop_of_length-le d h)
+series-end [] h = refl
+series-end (b ∷ rest) h = absurd (omega (arith, h))
 
-pub requests-end : (d : Bytes) (at : ℕ) → length d ≤ at → requests_from d at ≡ []
-unfolding requests_from or_empty
-requests-end d at h = ap or_empty (series-end d at h)
-
-pub well-formed-end : (d : Bytes) (at : ℕ) → length d ≤ at → WellFormedFrom d at
-unfolding malformed
-well-formed-end d at h = ap malformed (series-end d at h)
+pub requests-end : (rest : Bytes) → length rest ≤ 0 → requests_in rest ≡ []
+unfolding requests_in or_empty
+requests-end rest h = ap or_empty (series-end rest h)

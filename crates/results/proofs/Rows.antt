@@ -1,14 +1,14 @@
 -- A row of checks, as code follows it: each check that fails ends the call, and each that passes leaves the rest of the row.
 -- A return deep in a row is then read from left to right: `rw (passes .., passes .., refuses ..)`, and what the call came to.
-use mathlib.Core.Path.{◌≡◌, refl, sym, ap, ◌∙◌}
-use mathlib.Core.List.{List, ◌∷◌, []}
-use mathlib.Core.Bool.{Bool, true, false, true≢false, not, ◌&&◌}
-use lib.ListN.{length}
+use Rattle.std.proofs.Common.{◌≡◌, refl, sym, ap, ◌∙◌, List, ◌∷◌, [], Bool, true, false, true≢false, not, ◌&&◌, length}
 use Rattle.rules.specs.Words.{Bytes}
 use Rattle.rules.specs.Table.{Store, bytes}
 use Rattle.rules.specs.Answers.{Refusal, code_number, Answer, Result, refuse, answer, change, Check, ◌⇒◌, judge, Outcome, outcome}
 use Rattle.rules.specs.Source.{refused_reply, reply_of, Reply}
-use Rattle.results.specs.Results.{Gives}
+use Rattle.storing.specs.Storing.{Became}
+use Rattle.storing.specs.declared.table.Table.{Table}
+use Rattle.storing.proofs.Chain.{written}
+use Rattle.results.specs.Results.{Gives, Leaves}
 
 -- two replies and two tables that both keep one promise are equal
 pub gives_one : {o : Outcome} {r r' : Reply} {t t' : Bytes} → Gives o r t → Gives o r' t' → (r ≡ r') × (t ≡ t')
@@ -27,6 +27,14 @@ module _ (t : Bytes) where
   pub changes : {t' : Bytes} (a : Answer) (s : Store) → t' ≡ bytes (length t) s → Gives (outcome t (change a s)) (reply_of a) t'
   unfolding outcome
   changes a s q = record { reply = refl; table = q }
+
+-- the same of a table that is written: it is left as it was, or it has become another
+pub leaves : {o : Outcome} {r : Reply} (table : Table) → Gives o r table.bytes.now → Leaves o r table table
+leaves table g = record { lent = refl; gives = g }
+
+pub becomes : {before after : Table} {s : Store} (a : Answer) → Became before after s
+    → Leaves (outcome before.bytes.now (change a s)) (reply_of a) before after
+becomes {before} {s = s} a h = record { lent = h.lent; gives = changes before.bytes.now a s (written h) }
 
 -- the first check of a row
 module _ {b : Bool} where

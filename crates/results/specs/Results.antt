@@ -1,16 +1,10 @@
 -- What the functions that carry out a call ask and promise.
-use Rattle.std.specs.Prelude.{ℕ, ◌*◌, ◌≤◌, ◌≡◌, true, false, length}
+use Rattle.std.specs.Prelude.{◌*◌, ◌≤◌, ◌≡◌, false, length}
 use Rattle.rules.specs.Words.{Bytes, word_bytes}
-use Rattle.rules.specs.Table.{store}
-use Rattle.rules.specs.Sound.{sound_table}
 use Rattle.rules.specs.Messages.{key_too_long}
 use Rattle.rules.specs.Answers.{Outcome}
 use Rattle.rules.specs.Source.{reply_of, Reply}
-
--- a sound table with `used` occupied records
-pub record SoundWith (t : Bytes) (used : ℕ) : Type 0 where
-  pub sound : sound_table t ≡ true
-  pub count : used ≡ length (store t)
+use Rattle.storing.specs.declared.table.Table.{Table}
 
 -- data with an index and a key word, which has no leading bytes
 pub record NamesKey (d : Bytes) : Type 0 where
@@ -21,3 +15,8 @@ pub record NamesKey (d : Bytes) : Type 0 where
 pub record Gives (o : Outcome) (r : Reply) (after : Bytes) : Type 0 where
   pub reply : r ≡ reply_of o.answer
   pub table : after ≡ o.table
+
+-- The promise of a call on a table that is written: the same, and the bytes are those that were lent.
+pub record Leaves (o : Outcome) (r : Reply) (before after : Table) : Type 0 where
+  pub lent : after.bytes.ghost_name ≡ before.bytes.ghost_name
+  pub gives : Gives o r after.bytes.now

@@ -17,7 +17,6 @@ pub record CoversNeeds (n : ℕ) (capability x : Bytes) : Type 0 where
   pub names : number kind ≡ n
   pub size : word_bytes * word_count kind ≤ length capability
   pub in_range : prefix_in_range kind (capability_in kind capability) ≡ true
-  pub word : length x ≡ word_bytes
   pub key : kind ≢ write → num x < 256 ^ key_bytes
 
 -- what is asked where b is judged to lie within a; the prefix of b may be any

@@ -23,7 +23,7 @@ pub fn prefix_in_range(kind: Kind, capability: &[u8]) -> bool
 }
 
 // Whether a capability, whose words come first in bytes, covers what a word names: a key, or for Write an address.
-pub fn covers(kind: Kind, capability: &[u8], x: &[u8]) -> bool
+pub fn covers(kind: Kind, capability: &[u8], x: &[u8; rules::WORD_BYTES]) -> bool
     requires { CoversNeeds kind.0 capability.now x.now }
     ensures { OfType kind.0 (λ k. result ≡ covers k (capability_in k capability.now) (num x.now)) }
 {

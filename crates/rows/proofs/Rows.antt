@@ -95,19 +95,20 @@ module _ (count k v : ℕ) {a : Bool} (e : a ≡ eqb (k % 256 ^ 2) 0) where
   counted-still t = rw (sym e ∙ t)
 
 -- the type that the key's end names, if it names one
-module _ (type count k v : ℕ) {f : ℕ} (first : f ≡ end_first k) {a : Bool} (e : a ≡ is_type f) where
-  pub known-if : a ≡ true → {r : Bool} → ((kind : Kind) → number kind ≡ f → r ≡ kind_row kind type count (k holds v)) → r ≡ later_row type count (k holds v)
+module _ (type count k v : ℕ) {f : ℕ} (first : f ≡ end_first k) where
+  pub known-if : is_type f ≡ true → {r : Bool} → ((kind : Kind) → number kind ≡ f → r ≡ kind_row kind type count (k holds v))
+      → r ≡ later_row type count (k holds v)
   unfolding is_type later_row
   known-if t {r} is = go (kind_of (end_first k)) refl
     where
       go : (o : Option Kind) → kind_of (end_first k) ≡ o → r ≡ later_row type count (k holds v)
-      go none q = let no : is_type f ≡ false = rw (first, q, is_type) in absurd (true≢false (sym t ∙ e ∙ no))
+      go none q = let no : is_type f ≡ false = rw (first, q, is_type) in absurd (true≢false (sym t ∙ no))
       go (some kind) q = rw (q, later_row) (is kind (kind_of-some f kind (ap kind_of first ∙ q)))
 
-  pub unknown-not : a ≡ false → false ≡ later_row type count (k holds v)
+  pub unknown-not : is_type f ≡ false → false ≡ later_row type count (k holds v)
   unfolding is_type later_row
   unknown-not t = go (kind_of (end_first k)) refl
     where
       go : (o : Option Kind) → kind_of (end_first k) ≡ o → false ≡ later_row type count (k holds v)
       go none q = rw (q, later_row)
-      go (some kind) q = let yes : is_type f ≡ true = rw (first, q, is_type) in absurd (true≢false (sym yes ∙ sym e ∙ t))
+      go (some kind) q = let yes : is_type f ≡ true = rw (first, q, is_type) in absurd (true≢false (sym yes ∙ t))

@@ -25,10 +25,14 @@ abbrev pub values : {A : Type 0} → (ℕ → A) → ℕ → List A
 values f zero = []
 values f (suc n) = f 0 ∷ values (λ k. f (suc k)) n
 
+-- a function that has a default from n on is read in the list of its first n values, and the default behind them
+pub value-or : {A : Type 0} (f : ℕ → A) (default : A) (n k : ℕ) → (n ≤ k → f k ≡ default) → get_or (values f n) k default ≡ f k
+value-or f d zero k h = sym (h (omega arith))
+value-or f d (suc n) zero h = refl
+value-or f d (suc n) (suc k) h = value-or (λ i. f (suc i)) d n k (λ b. h (omega (arith, b)))
+
 pub value-at : {A : Type 0} (f : ℕ → A) (default : A) (n k : ℕ) → k < n → get_or (values f n) k default ≡ f k
-value-at f d zero k h = absurd (omega arith)
-value-at f d (suc n) zero h = refl
-value-at f d (suc n) (suc k) h = value-at (λ i. f (suc i)) d n k (omega arith)
+value-at f d n k h = value-or f d n k (λ b. absurd (omega (arith, b, h)))
 
 number-below : (kind : Kind) → number kind < 8
 unfolding number

@@ -1,6 +1,6 @@
 -- The source's types in the rules' terms: what the rules say of a type's number, the reply that stands for an answer, and what
 -- each case of a reply means in document 01. Last, the numbers that the source names.
-use Rattle.std.specs.Prelude.{ℕ, ◌≤◌, ◌≡◌, List, [], ◌∷◌, map, Bool, true, false, eqb, Result, Ok, Err}
+use Rattle.std.specs.Prelude.{ℕ, ◌≤◌, ◌≡◌, List, [], ◌∷◌, map, Bool, true, false, eqb, Result, Ok, Err, MatchResult}
 use Rattle.std.proofs.Math.Option.{none, some}
 use Rattle.rules.specs.Words.{key_bytes, address_bytes, word_bytes, Bytes, bytes_of}
 use Rattle.rules.specs.Table.{record_size, greatest_table}
@@ -12,6 +12,8 @@ use Rattle.rules.specs.Validation.{greatest_code}
 use Rattle.rules.specs.Answers.{Refusal, ed, refusals, code_number, code_bytes, Answer, refused, done, called, registered, looked, Fields, no_address, no_value}
 use Rattle.rules.specs.Calls.{greatest_list}
 use Rattle.rules.specs.declared.Refusal.{Refusal as Code}
+use Rattle.rules.specs.declared.Kind.{Kind as Numbered}
+use Rattle.rules.specs.declared.UnknownKind.{UnknownKind}
 use Rattle.rules.specs.declared.Success.{Success}
 use Rattle.rules.specs.declared.Success.TheVariants.{Done, Called, Registered, Looked}
 use Rattle.rules.specs.declared.Numbers.{Numbers}
@@ -28,6 +30,10 @@ minimum_of n = elim (kind_of n) [ none ↦ 0 | some kind ↦ minimum kind ]
 
 unfoldable pub open_ended_of : ℕ → Bool
 open_ended_of n = elim (kind_of n) [ none ↦ false | some kind ↦ open_ended kind ]
+
+-- the result is the type with a number, or an error with a number that names none
+abbrev pub NamesType : ℕ → Result Numbered UnknownKind → Type 0
+NamesType n r = MatchResult r (λ kind. (kind.0 ≡ n) × (is_type n ≡ true)) (λ e. (e.0 ≡ n) × (is_type n ≡ false))
 
 -- what P says of the kind that has the type n; nothing if none has
 abbrev pub OfType : (n : ℕ) → (P : Kind → Type 0) → Type 0

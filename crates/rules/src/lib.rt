@@ -1,8 +1,9 @@
 #![tactic(auto)]
-// The rules. Document 01, with what 02 has changed, stands as definitions in specs/. Here stand its numbers, named once, and the types that the
-// other crates share; `named_numbers` shows that the numbers here and in specs/ are the same ones.
-ghost use Rattle.std.specs.Prelude.{◌≡◌};
-ghost use Rattle.rules.specs.Source.{is_type, HasWords, minimum_of, open_ended_of, rule_numbers};
+// The rules. Document 01, with what 02 has changed, stands as definitions in specs/. Here stand its numbers, named once, and the
+// types that the other crates share; `named_numbers` shows that the numbers here and in specs/ are the same ones.
+ghost use Rattle.std.specs.Prelude.{◌≡◌, length};
+ghost use Rattle.rules.specs.Answers.{code_bytes};
+ghost use Rattle.rules.specs.Source.{is_type, NamesType, HasWords, minimum_of, open_ended_of, rule_numbers};
 
 // The bytes of a procedure's key.
 pub const KEY_BYTES: usize = 24;
@@ -46,8 +47,8 @@ pub const GREATEST_CODE: usize = 24576;
 // The length of a list that takes no more procedures.
 pub const GREATEST_LIST: usize = 16777215;
 
-// The type of a capability or a message, by its number: document 01 wants the types as constants of theirs. (The language keeps the
-// word `type` for itself.)
+// The type of a capability or a message, by its number: document 01 wants the types as constants of theirs. (The language keeps
+// the word `type` for itself.)
 #[derive(Clone, Copy, Debug, PartialEq, Eq)]
 pub struct Kind(pub u8);
 
@@ -90,17 +91,17 @@ impl Kind {
         Kind::CALL.0 <= self.0 && self.0 <= Kind::WRITE.0
     }
 
-    // How many words a capability of the type has; 0, and no Option, if the number names no type (`HasWords`). Every record of a capability asks, so each type is
-    // asked for by name: where the index is known, no array is laid out.
+    // How many words a capability of the type has; 0, and no Option, if the number names no type (`HasWords`). Every record of a
+    // capability asks, so each type is asked for by name: where the index is known, no array is laid out.
     pub fn words(self) -> usize
         ensures { HasWords self.0 result }
     {
         match self {
-            Kind::CALL => WORDS[Kind::CALL.0 as usize],
-            Kind::REGISTER => WORDS[Kind::REGISTER.0 as usize],
-            Kind::DELETE => WORDS[Kind::DELETE.0 as usize],
-            Kind::SET_ENTRY => WORDS[Kind::SET_ENTRY.0 as usize],
-            Kind::WRITE => WORDS[Kind::WRITE.0 as usize],
+            Kind::CALL => WORDS[usize::from(Kind::CALL.0)],
+            Kind::REGISTER => WORDS[usize::from(Kind::REGISTER.0)],
+            Kind::DELETE => WORDS[usize::from(Kind::DELETE.0)],
+            Kind::SET_ENTRY => WORDS[usize::from(Kind::SET_ENTRY.0)],
+            Kind::WRITE => WORDS[usize::from(Kind::WRITE.0)],
             _ => 0,
         }
     }
@@ -109,12 +110,7 @@ impl Kind {
     pub fn minimum_data(self) -> usize
         ensures { result ≡ minimum_of self.0 }
     {
-        let type_number = self.0 as usize;
-        if type_number < TYPES {
-            MINIMUM_DATA[type_number]
-        } else {
-            0
-        }
+        MINIMUM_DATA.get(usize::from(self.0)).copied().unwrap_or(0)
     }
 
     // Whether a message of the type may have more data than its minimum; false if the number names no type.
@@ -125,8 +121,27 @@ impl Kind {
     }
 }
 
-// A refusal's code: its one or two bytes, read as one number. Document 01 wants the codes as constants of their type. The comments are the rows of document 01's table of codes;
-// that of 66 eb is of document 02.
+// A number that names no type.
+#[derive(Clone, Copy, Debug, PartialEq, Eq)]
+pub struct UnknownKind(pub u8);
+
+impl TryFrom<u8> for Kind {
+    type Error = UnknownKind;
+
+    ghost try_from_gives = { NamesType };
+
+    fn try_from(number: u8) -> Result<Kind, UnknownKind> {
+        let kind = Kind(number);
+        if kind.known() {
+            Ok(kind)
+        } else {
+            Err(UnknownKind(number))
+        }
+    }
+}
+
+// A refusal's code: its one or two bytes, read as one number. Document 01 wants the codes as constants of their type. The
+// comments are the rows of document 01's table of codes; that of 66 eb is of document 02.
 #[derive(Clone, Copy, Debug, PartialEq, Eq)]
 pub struct Refusal(pub u16);
 
@@ -167,6 +182,13 @@ impl Refusal {
     pub const LIST_FULL: Refusal = Refusal(0x66e8);
     // the table afterwards would need more records than it has room for
     pub const NO_ROOM: Refusal = Refusal(0x66e7);
+
+    // How many bytes the code has: one or two.
+    pub fn code_len(self) -> u8
+        ensures { result ≡ length (code_bytes self.0) }
+    {
+        if self.0 < 256 { 1 } else { 2 }
+    }
 }
 
 // What a call that succeeds reports.
@@ -186,7 +208,7 @@ pub enum Success {
 pub type Reply = Result<Success, Refusal>;
 
 // The numbers that are named here, in the order in which specs/ names them.
-#[derive(Drop)]
+#[derive(Clone, Copy, Debug, PartialEq, Eq)]
 pub struct Numbers {
     pub sizes: [usize; 13],
     pub mark: [u8; 4],

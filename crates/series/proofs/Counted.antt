@@ -1,17 +1,7 @@
 -- The loop that counts the requests of each type: the counts so far and those of the requests that are left make up the whole.
 -- The test for too many then looks at each type's count.
-use Prim.Native.Nat.{ℕ, zero, suc, ◌+◌, ◌≤◌, ◌<◌}
-use native.Mathlib.Omega.{arith}
-use mathlib.Core.Path.{◌≡◌, refl, sym, ap, ◌∙◌}
-use mathlib.Core.Logic.{◌⊎◌, inl, inr}
-use mathlib.Core.List.{List, [], ◌∷◌}
-use mathlib.Core.Bool.{Bool, true, false}
-use lib.Dec.{eqb, ltb}
-use lib.ListN.{length, get_or, set, replicate, length-set}
-use lib.Seq.{get_or-set_same, get_or-set_other, ext_get_or}
-use borrow.Author.Tests.{ltb-true, ltb-false, eq-eqb, ne_eqb, lt-ltb, le-ltb}
-use Rattle.std.specs.Prelude.{MatchBool}
-use Rattle.std.specs.List.{AllWithin, HoldsAt}
+use Rattle.std.proofs.Common.{ℕ, zero, suc, ◌+◌, ◌≤◌, ◌<◌, ◌≡◌, ◌⊎◌, inl, inr, refl, sym, ap, ◌∙◌, List, [], ◌∷◌, Bool, true, false, eqb, ltb, length, get_or, set, arith, length-set, get_or-set_same, get_or-set_other, ext_get_or, ltb-true, ltb-false, eq-eqb, ne_eqb, lt-ltb, le-ltb, MatchBool, HoldsAt}
+use Rattle.std.specs.List.{AllWithin}
 use Rattle.rules.specs.Words.{Bytes}
 use Rattle.rules.specs.Capabilities.{Kind, call, register, delete, set_entry, write, number}
 use Rattle.rules.specs.Sound.{greatest_count, any_of}
@@ -20,12 +10,12 @@ use Rattle.rules.specs.Calls.{too_many}
 use Rattle.rules.proofs.Source.{names-none}
 use Rattle.laws.proofs.KindFacts.{number-least, kind_of-number}
 use Rattle.laws.proofs.Numbers.{same_or_not}
-use Rattle.series.specs.Series.{left, bytes_left, AllLeft, FirstLeft, requested_counts}
+use Rattle.series.specs.Series.{left, bytes_left, FirstLeft, requested_counts}
 use Rattle.series.specs.declared.Series.{Series}
 use Rattle.series.specs.declared.Request.{Request as Found}
 
 -- a type's number is below the length of the counts, since no number from there on names a type
-pub number-below : (kind : Kind) → number kind < 8
+number-below : (kind : Kind) → number kind < 8
 number-below kind = go (ltb (number kind) 8) refl
   where
     go : (b : Bool) → ltb (number kind) 8 ≡ b → number kind < 8
@@ -47,22 +37,9 @@ pub record Counted (d : Bytes) (it : Series) (counts : List ℕ) : Type 0 where
   pub no_type : (i : ℕ) → i < 3 → get_or counts i 0 ≡ 0
   pub kinds : (kind : Kind) → count kind (requests d) ≡ get_or counts (number kind) 0 + count kind (left it)
 
-zeros-at : (n i : ℕ) → ◌≡◌ {A = ℕ} (get_or (replicate n 0) i 0) 0
-zeros-at zero i = refl
-zeros-at (suc n) zero = refl
-zeros-at (suc n) (suc i) = zeros-at n i
-
-pub counted_none : {d : Bytes} {it : Series} → AllLeft d it → Counted d it (replicate 8 0)
-counted_none {d} a =
-    record {
-      size = refl;
-      few = λ i. omega (arith, zeros-at 8 i, a.bytes);
-      no_type = λ i h. zeros-at 8 i;
-      kinds = λ kind.
-          let none = zeros-at 8 (number kind) in
-          let all = ap (count kind) a.all in
-          omega (arith, none, all);
-    }
+-- the counts have the place of a request's type
+pub counted-below : {it more : Series} {r : Found} → FirstLeft it r more → r.kind.0 < 8
+counted-below q = omega (arith, number-below q.request.kind, q.type)
 
 -- one more request
 module _ (kind : Kind) (r : Request) (rs : List Request) where
@@ -87,7 +64,8 @@ counted-more {d} {it} {more} {counts} {r} c q =
       size = length-set counts n (get_or counts n 0 + 1) ∙ c.size;
       few = λ i. few i (same_or_not i n);
       no_type = λ i h.
-          get_or-set_other counts n i (get_or counts n 0 + 1) 0 (λ e. omega (arith, number-least q.request.kind, q.type)) ∙ c.no_type i h;
+          get_or-set_other counts n i (get_or counts n 0 + 1) 0 (λ e. omega (arith, number-least q.request.kind, q.type))
+          ∙ c.no_type i h;
       kinds = λ kind. kinds kind (same_or_not (number kind) (number q.request.kind));
     }
   where
@@ -117,7 +95,8 @@ counted-more {d} {it} {more} {counts} {r} c q =
         let more_of = first kind ∙ no_more kind q.request (left more) o in
         rw (get_or-set_other counts n (number kind) (get_or counts n 0 + 1) 0 off_n) (omega (arith, here, more_of))
 
-pub counted-all : {d : Bytes} {it : Series} {counts : List ℕ} → Counted d it counts → left it ≡ [] → counts ≡ requested_counts (requests d)
+pub counted-all : {d : Bytes} {it : Series} {counts : List ℕ} → Counted d it counts → left it ≡ []
+    → counts ≡ requested_counts (requests d)
 unfolding requested_counts number requested_of
 counted-all {d} {it} {counts} c l = ext_get_or 0 counts (requested_counts (requests d)) c.size same
   where
@@ -138,7 +117,8 @@ counted-all {d} {it} {counts} c l = ext_get_or 0 counts (requested_counts (reque
     same (suc (suc (suc (suc (suc (suc (suc (suc i)))))))) h = absurd (omega (arith, c.size))
 
 -- what a type's number finds in the counts
-pub requested-at : (rs : List Request) (kind : Kind) → get_or (requested_counts rs) (number kind) 0 ≡ length (requested_of kind rs)
+pub requested-at : (rs : List Request) (kind : Kind)
+    → get_or (requested_counts rs) (number kind) 0 ≡ length (requested_of kind rs)
 unfolding requested_counts number
 requested-at rs call = refl
 requested-at rs register = refl
@@ -153,7 +133,8 @@ found [] k h l = absurd (omega arith)
 found (x ∷ xs) zero h l = let many = lt-ltb greatest_count x l in rw (many, any_of)
 found (x ∷ xs) (suc k) h l = go (found xs k (omega arith) l) (ltb greatest_count x) refl
   where
-    go : any_of (ltb greatest_count) xs ≡ true → (b : Bool) → ltb greatest_count x ≡ b → any_of (ltb greatest_count) (x ∷ xs) ≡ true
+    go : any_of (ltb greatest_count) xs ≡ true → (b : Bool) → ltb greatest_count x ≡ b
+        → any_of (ltb greatest_count) (x ∷ xs) ≡ true
     go e true q = rw (q, any_of)
     go e false q = rw (q, any_of) e
 
@@ -164,9 +145,14 @@ not-found (x ∷ xs) h =
     let few = le-ltb greatest_count x (h 0 0 (omega arith) (omega arith)) in
     rw (few, any_of) (not-found xs (λ k d l m. h (suc k) d (omega arith) (omega arith)))
 
+-- what a search over the counts answers: that one is too large, or that none is
+abbrev pub Searched : List ℕ → Bool → Type 0
+Searched counts r =
+    MatchBool r ((k : ℕ) × (k < length counts) × HoldsAt (λ x. greatest_count < x) counts k)
+    (AllWithin (λ x. x ≤ greatest_count) counts 0 (length counts))
+
 -- no count stands where no type's number is, so those of the types decide
-pub counts-decide : (rs : List Request) {counts : List ℕ} → counts ≡ requested_counts rs → (r : Bool)
-    → MatchBool r ((k : ℕ) × (k < length counts) × HoldsAt (λ x. greatest_count < x) counts k) (AllWithin (λ x. x ≤ greatest_count) counts 0 (length counts))
+pub counts-decide : (rs : List Request) {counts : List ℕ} → counts ≡ requested_counts rs → (r : Bool) → Searched counts r
     → r ≡ too_many rs
 unfolding too_many any_of requested_counts
 counts-decide rs {counts} e r h = go r h ∙ ap (any_of (ltb greatest_count)) e ∙ all
@@ -174,7 +160,6 @@ counts-decide rs {counts} e r h = go r h ∙ ap (any_of (ltb greatest_count)) e 
     all : any_of (ltb greatest_count) (requested_counts rs) ≡ too_many rs
     all = refl
 
-    go : (r : Bool) → MatchBool r ((k : ℕ) × (k < length counts) × HoldsAt (λ x. greatest_count < x) counts k) (AllWithin (λ x. x ≤ greatest_count) counts 0 (length counts))
-        → r ≡ any_of (ltb greatest_count) counts
+    go : (r : Bool) → Searched counts r → r ≡ any_of (ltb greatest_count) counts
     go true q = sym (found counts q.0 q.1 (q.2 0))
     go false q = sym (not-found counts q)

@@ -1,10 +1,11 @@
 #![tactic(auto)]
-// Register's series of requested capabilities, read in the data as it was lent. `d` is the data of a Register message.
+// Register's series of requested capabilities, read in the data as it was lent. `d` is the data of a Register message, `rest` the
+// series from a request on to its end.
 ghost use Rattle.std.specs.Prelude.{◌≡◌, ◌<◌, length};
 ghost use Rattle.rules.specs.Messages.{series_at, requests};
 ghost use Rattle.rules.specs.Calls.{too_many};
-ghost use Rattle.requests.specs.Requests.{WellFormedFrom};
-ghost use Rattle.series.specs.Series.{RequestAt, AllLeft, requested_counts};
+ghost use Rattle.requests.specs.Requests.{WellFormed, WellFormedFrom};
+ghost use Rattle.series.specs.Series.{FirstRequest, AllLeft, requested_counts};
 
 pub use requests::well_formed;
 use rules::Kind;
@@ -16,25 +17,23 @@ pub struct Request<'a> {
     pub words: &'a [u8],
 }
 
-// The request that begins at an offset of a well-formed series, before its end.
-pub fn request_at<'a>(d: &'a [u8], at: usize) -> Request<'a>
-    requires { (at < length d.now) × WellFormedFrom d.now at }
-    ensures { RequestAt d.now at result }
+// The first request of a well-formed series that has one.
+fn first_request<'a>(rest: &'a [u8]) -> Request<'a>
+    requires { (0 < length rest.now) × WellFormed rest.now }
+    ensures { FirstRequest rest.now result }
 {
-    let words_at = at + requests::HEAD;
-    let kind = Kind(d[words_at - 1]);
-    let end = words_at + rules::WORD_BYTES * kind.words();
+    let kind = Kind(rest[requests::HEAD - 1]);
+    let end = requests::HEAD + rules::WORD_BYTES * kind.words();
     Request {
         kind,
-        words: &d[words_at..end],
+        words: &rest[requests::HEAD..end],
     }
 }
 
-// The requests of a well-formed series from an offset on, in order.
+// The requests of a well-formed series that are left, in order.
 #[derive(Drop)]
 pub struct Series<'a> {
-    d: &'a [u8],
-    at: usize,
+    rest: &'a [u8],
 }
 
 impl<'a> Iterator for Series<'a> {
@@ -50,11 +49,11 @@ impl<'a> Iterator for Series<'a> {
     ghost remaining = { item_count left };
 
     fn next(&mut self) -> Option<Request<'a>> {
-        if self.d.len() <= self.at {
+        if self.rest.is_empty() {
             return None;
         }
-        let request = request_at(self.d, self.at);
-        self.at += requests::HEAD + request.words.len();
+        let request = first_request(self.rest);
+        self.rest = &self.rest[requests::HEAD + request.words.len()..];
         Some(request)
     }
 }
@@ -65,8 +64,7 @@ pub fn requests<'a>(d: &'a [u8]) -> Series<'a>
     ensures { AllLeft d.now result }
 {
     Series {
-        d,
-        at: rules::SERIES_AT,
+        rest: d.get(rules::SERIES_AT..).unwrap_or_default(),
     }
 }
 
@@ -77,7 +75,7 @@ pub fn requested(d: &[u8]) -> [usize; rules::TYPES]
 {
     let mut counts = [0; rules::TYPES];
     for request in requests(d) {
-        counts[request.kind.0 as usize] += 1;
+        counts[usize::from(request.kind.0)] += 1;
     }
     counts
 }

@@ -1,7 +1,7 @@
 #![tactic(auto, unfolding(rules::specs::KernelStorage::ending, rules::specs::KernelStorage::address_slot, rules::specs::KernelStorage::index_slot, rules::specs::KernelStorage::count_slot, rules::specs::KernelStorage::word_slot, rules::specs::KernelStorage::length_slot, rules::specs::KernelStorage::kernel_address_slot, rules::specs::KernelStorage::current_slot, rules::specs::KernelStorage::entry_slot, rules::specs::Words::num, rules::specs::Words::num_after))]
 // The keys of the slots of kernel storage.
-ghost use Rattle.std.specs.Prelude.{◌≡◌, length};
-ghost use Rattle.rules.specs.Words.{key_bytes, num};
+ghost use Rattle.std.specs.Prelude.{◌≡◌};
+ghost use Rattle.rules.specs.Words.{num};
 ghost use Rattle.rules.specs.KernelStorage.{slot, ending, address_slot, index_slot, count_slot, word_slot};
 ghost use Rattle.rules.specs.KernelStorage.{length_slot, place_slot, kernel_address_slot, current_slot, entry_slot};
 ghost use Rattle.slots.specs.Slots.{KeyOf};
@@ -23,48 +23,47 @@ const CURRENT: u8 = 3;
 const ENTRY: u8 = 4;
 
 // The contract address of a procedure.
-pub fn address_slot(procedure: &[u8]) -> [u8; rules::WORD_BYTES]
-    requires { length procedure.now ≡ key_bytes }
+pub fn address_slot(procedure: &[u8; rules::KEY_BYTES]) -> [u8; rules::WORD_BYTES]
     ensures { KeyOf (address_slot (num procedure.now)) result }
 {
     layout::slot(PROCEDURES, procedure, 0, 0, 0)
 }
 
 // The last slot that a procedure can have: its address has the first.
-pub fn last_slot(procedure: &[u8]) -> [u8; rules::WORD_BYTES]
-    requires { length procedure.now ≡ key_bytes }
+pub fn last_slot(procedure: &[u8; rules::KEY_BYTES]) -> [u8; rules::WORD_BYTES]
     ensures { KeyOf (slot 0 (num procedure.now) (ending 255 255 255)) result }
 {
     layout::slot(PROCEDURES, procedure, 255, 255, 255)
 }
 
 // The procedure index.
-pub fn index_slot(procedure: &[u8]) -> [u8; rules::WORD_BYTES]
-    requires { length procedure.now ≡ key_bytes }
+pub fn index_slot(procedure: &[u8; rules::KEY_BYTES]) -> [u8; rules::WORD_BYTES]
     ensures { KeyOf (index_slot (num procedure.now)) result }
 {
     layout::slot(PROCEDURES, procedure, 0, 0, 1)
 }
 
 // The number of a procedure's capabilities of a type.
-pub fn count_slot(procedure: &[u8], kind: rules::Kind) -> [u8; rules::WORD_BYTES]
-    requires { length procedure.now ≡ key_bytes }
+pub fn count_slot(procedure: &[u8; rules::KEY_BYTES], kind: rules::Kind) -> [u8; rules::WORD_BYTES]
     ensures { KeyOf (count_slot (num procedure.now) kind.0) result }
 {
     layout::slot(PROCEDURES, procedure, kind.0, 0, 0)
 }
 
 // Word k, from 0, of a procedure's i-th capability of a type, i from 1.
-pub fn word_slot(procedure: &[u8], kind: rules::Kind, i: u8, k: u8) -> [u8; rules::WORD_BYTES]
-    requires { length procedure.now ≡ key_bytes }
+pub fn word_slot(
+    procedure: &[u8; rules::KEY_BYTES],
+    kind: rules::Kind,
+    i: u8,
+    k: u8,
+) -> [u8; rules::WORD_BYTES]
     ensures { KeyOf (word_slot (num procedure.now) kind.0 i k) result }
 {
     layout::slot(PROCEDURES, procedure, kind.0, i, k)
 }
 
 // The slot of the list that has the given middle.
-fn list_slot(middle: &[u8]) -> [u8; rules::WORD_BYTES]
-    requires { length middle.now ≡ key_bytes }
+fn list_slot(middle: &[u8; rules::KEY_BYTES]) -> [u8; rules::WORD_BYTES]
     ensures { KeyOf (slot 1 (num middle.now) 0) result }
 {
     layout::slot(LIST, middle, 0, 0, 0)

@@ -1,5 +1,5 @@
 -- The list, the procedures and what is asked besides: together they are the walk, and the walk is the rules' test.
-use Rattle.std.proofs.Common.{ℕ, ◌+◌, ◌-◌, ◌≤◌, ◌<◌, min, arith, ◌≡◌, refl, sym, ap, ◌∙◌, Bool, true, false, length, Option, None, Some, Result, Ok, Err}
+use Rattle.std.proofs.Common.{ℕ, ◌+◌, ◌-◌, ◌<◌, min, arith, ◌≡◌, refl, sym, ap, ◌∙◌, Bool, true, false, length, Option, None, Some, Result, Ok, Err}
 use Rattle.rules.specs.Words.{Bytes, num}
 use Rattle.rules.specs.Table.{Store, get, store, record_form}
 use Rattle.rules.specs.KernelStorage.{length_slot, kernel_address_slot, current_slot, entry_slot}
@@ -22,7 +22,8 @@ use Rattle.holding.specs.Holding.{WordOf}
 use Rattle.rules.specs.Answers.{ef, code_number}
 use Rattle.rules.specs.declared.Refusal.{Refusal as Code}
 use Rattle.key_words.specs.KeyWords.{KeyPart}
-use Rattle.listing.specs.Listings.{Occupied, Listing}
+use Rattle.finding.specs.declared.Records.{Records}
+use Rattle.listing.specs.Listings.{Listing}
 use Rattle.soundness.specs.Soundness.{SoundList, rest_sound, soundness_of}
 use Rattle.listing.proofs.Lookups.{at_slot, word-key, few}
 
@@ -60,55 +61,47 @@ module _ (s : Store) {of_current : Bytes} (k : KeyOf current_slot of_current) {a
       unfolding rest_sound
       address-if = rw (current-is q, entry-is z, address_is)
 
--- the list's length, by what `small` gives for it
-module _ {t : Bytes} {used : ℕ} (o : Occupied t used) {n : ℕ} (e : n ≡ min (get (store t) length_slot) small_limit) where
-  length_read : n ≡ min (list_length (store t)) small_limit
-  unfolding list_length
-  length_read = e
-
-  listing : n ≤ used → Listing t used n
-  listing h = record { form = o.form; count = o.count; all = omega (arith, length_read, few o); short = h }
-
 -- the records of a table: the list, then the procedures, then the rest
-module _ {t : Bytes} {used list : ℕ} (o : Occupied t used) {slot : Bytes} (k : KeyOf length_slot slot) (b : list ≡ keys_below (store t) (num slot)) where
-  pub before-list : list ≡ before_list (store t)
+module _ (table : Records) {list : ℕ} {slot : Bytes} (k : KeyOf length_slot slot)
+    (b : list ≡ keys_below (store table.bytes.now) (num slot)) where
+  pub before-list : list ≡ before_list (store table.bytes.now)
   unfolding before_list
-  before-list = b ∙ ap (keys_below (store t)) k.number
+  before-list = b ∙ ap (keys_below (store table.bytes.now)) k.number
 
-  is-walked : sound (store t) ≡ walked (store t)
-  is-walked = let f = formed t o.form in sound-walked (store t) f.ascends f.words (omega (arith, f.fits, f.few))
+  is-walked : sound (store table.bytes.now) ≡ walked (store table.bytes.now)
+  is-walked =
+      let f = formed table.bytes.now table.form in
+      sound-walked (store table.bytes.now) f.ascends f.words (omega (arith, f.fits, f.few))
 
-  module _ {a : Bool} (e : a ≡ list_form (store t)) where
-    pub list-not : a ≡ false → false ≡ sound (store t)
+  module _ {a : Bool} (e : a ≡ list_form (store table.bytes.now)) where
+    pub list-not : a ≡ false → false ≡ sound (store table.bytes.now)
     unfolding walked
     list-not q = sym (is-walked ∙ rw (sym e ∙ q))
 
     module _ (q : a ≡ true) where
-      rows : list_form (store t) ≡ true
+      rows : list_form (store table.bytes.now) ≡ true
       rows = sym e ∙ q
 
-      pub room : list + 4 < used
-      room = laid-room o before-list rows
+      pub room : list + 4 < table.used
+      room = laid-room table before-list rows
 
-      pub laid : Laid t list (used - list - 4)
-      laid = is-laid o before-list rows
+      pub laid : Laid table list (table.used - list - 4)
+      laid = is-laid table before-list rows
 
-      module _ {c : Bool} (f : c ≡ blocks_form (store t)) where
-        pub blocks-not : c ≡ false → false ≡ sound (store t)
+      module _ {c : Bool} (f : c ≡ blocks_form (store table.bytes.now)) where
+        pub blocks-not : c ≡ false → false ≡ sound (store table.bytes.now)
         unfolding walked
         blocks-not z = sym (is-walked ∙ rw (rows, sym f ∙ z))
 
-        pub sound-list : c ≡ true → SoundList t used (used - list - 4)
+        pub sound-list : c ≡ true → SoundList table (table.used - list - 4)
         sound-list z =
             record {
-              form = o.form;
-              count = o.count;
               all = laid.all;
               short = omega arith;
-              keys = listed-key (store t) (formed t o.form).ascends rows (sym f ∙ z);
+              keys = listed-key (store table.bytes.now) (formed table.bytes.now table.form).ascends rows (sym f ∙ z);
             }
 
-        pub rest-if : c ≡ true → {r : Bool} → r ≡ rest_sound (store t) → r ≡ sound (store t)
+        pub rest-if : c ≡ true → {r : Bool} → r ≡ rest_sound (store table.bytes.now) → r ≡ sound (store table.bytes.now)
         unfolding walked rest_sound
         rest-if z h = h ∙ sym (is-walked ∙ rw (rows, sym f ∙ z))
 
@@ -118,9 +111,6 @@ refused = Err (record { 0 = code_number ef })
 
 -- the whole
 module _ (t : Bytes) {r : Option ℕ} (e : r ≡ form_of t) where
-  pub used-occupied : {n : ℕ} → r ≡ Some n → Occupied t n
-  used-occupied h = record { form = used-form t e h; count = used-count t e h }
-
   answer : {b : Bool} → record_form t ≡ true → sound (store t) ≡ b → sound_table t ≡ b
   unfolding sound_table
   answer f q = rw f q
@@ -141,6 +131,11 @@ module _ (t : Bytes) {r : Option ℕ} (e : r ≡ form_of t) where
   store-sound h d q =
       let yes : sound_table t ≡ true = answer (used-form t e h) (sym d ∙ q) in
       ap Ok (used-count t e h) ∙ sym (rw (yes, soundness_of))
+
+-- a sound table has the record form
+pub sound-form : (t : Bytes) → sound_table t ≡ true → record_form t ≡ true
+unfolding sound_table
+sound-form t s = and_left _ _ s
 
 -- what the answer tells a caller
 module _ (t : Bytes) {r : Result ℕ Code} (e : r ≡ soundness_of t) where
@@ -174,13 +169,18 @@ module _ (t : Bytes) {r : Result ℕ Code} (e : r ≡ soundness_of t) where
   unfolding soundness_of
   unsound-code h = let no : soundness_of t ≡ refused = rw (unsound-table h, soundness_of) in cc
 
--- the list of a sound table
-module _ {t : Bytes} (s : sound_table t ≡ true) {used : ℕ} (c : used ≡ length (store t)) where
-  pub sound-occupied : Occupied t used
-  unfolding sound_table
-  sound-occupied = record { form = and_left _ _ s; count = c }
+-- the list of a sound table, by what `small` gives for its length
+module _ (table : Records) (s : sound_table table.bytes.now ≡ true) {n : ℕ}
+    (e : n ≡ min (get (store table.bytes.now) length_slot) small_limit) where
+  length_read : n ≡ min (list_length (store table.bytes.now)) small_limit
+  unfolding list_length
+  length_read = e
 
-  pub sound-listing : {n : ℕ} → n ≡ min (get (store t) length_slot) small_limit → Listing t used n
-  sound-listing {n} e =
-      let g = (sound_table-good t s).good in
-      listing sound-occupied e (omega (arith, length_read sound-occupied e, list-short (store t) g.ascending g.sound))
+  pub sound-listing : Listing table n
+  sound-listing =
+      let g = (sound_table-good table.bytes.now s).good in
+      let short = list-short (store table.bytes.now) g.ascending g.sound in
+      record {
+        all = omega (arith, length_read, few table, table.count, short);
+        short = omega (arith, length_read, table.count, short);
+      }

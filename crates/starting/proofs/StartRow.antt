@@ -1,28 +1,28 @@
 -- Set-up's row where the sizes are right: each return of the code is a place in it. The 13 records that it needs are counted in the
 -- laws.
-use Rattle.std.proofs.Common.{Ok}
-use Prim.Native.Nat.{◌≤◌, ◌<◌}
-use mathlib.Core.Path.{◌≡◌, sym, ◌∙◌}
-use mathlib.Core.Bool.{Bool, true, false}
-use lib.Dec.{eqb}
-use lib.ListN.{length}
-use borrow.Author.Tests.{lt-ltb, le-ltb}
-use Rattle.rules.specs.Words.{Bytes, AllBytes, key_bytes, address_bytes, num}
-use Rattle.rules.specs.Table.{bytes}
+use Rattle.std.proofs.Common.{◌^◌, ◌≤◌, ◌<◌, ◌≡◌, sym, ◌∙◌, Bool, true, false, eqb, length, lt-ltb, le-ltb, Ok}
+use Rattle.rules.specs.Words.{Bytes, key_bytes, address_bytes, num}
+use Rattle.rules.specs.Table.{bytes, length_fits}
 use Rattle.rules.specs.Sound.{IsKey, IsAddress}
-use Rattle.rules.specs.Answers.{e4, e7, code_number, done, outcome}
+use Rattle.rules.specs.Answers.{e4, e7, code_number, outcome}
 use Rattle.rules.specs.Calls.{is_zero, fresh, set_up_row}
-use Rattle.rules.specs.Source.{refused_reply, reply_of, Reply}
+use Rattle.rules.specs.Source.{refused_reply, reply_of}
 use Rattle.rules.specs.declared.Success.TheVariants.{Done}
 use Rattle.laws.proofs.Fresh.{set-up-bytes}
 use Rattle.laws.proofs.Numbers.{non_zero}
-use Rattle.laws.proofs.Words.{num-fits}
 use Rattle.founding.specs.Founding.{first_room, SetUpLent}
 use Rattle.results.specs.Results.{Gives}
 use Rattle.results.proofs.Rows.{refusal, changes, refuses, passes, ends}
-use Rattle.starting.specs.Starting.{RightSizes, set_up_on_sizes}
+use Rattle.starting.specs.Starting.{set_up_on_sizes}
 
-module _ {t k a ka : Bytes} (z : RightSizes t k a ka) (kb : AllBytes k) (ab : AllBytes a) (kab : AllBytes ka) {p : Bool} (e : p ≡ eqb (num k) 0) where
+-- what set-up is lent
+pub record Lent (t k a ka : Bytes) : Type 0 where
+  pub fits : length_fits t ≡ true
+  pub key : num k < 256 ^ key_bytes
+  pub address : num a < 256 ^ address_bytes
+  pub kernel_address : num ka < 256 ^ address_bytes
+
+module _ {t k a ka : Bytes} (z : Lent t k a ka) {p : Bool} (e : p ≡ eqb (num k) 0) where
   zero-key : {b : Bool} → p ≡ b → is_zero (num k) ≡ b
   unfolding is_zero
   zero-key q = sym e ∙ q
@@ -51,13 +51,13 @@ module _ {t k a ka : Bytes} (z : RightSizes t k a ka) (kb : AllBytes k) (ab : Al
 
       module _ (kernel : j ≡ false) where
         is-key : IsKey (num k)
-        is-key = record { non_zero = non_zero (num k) (sym e ∙ key); fits = num-fits key_bytes k kb z.key_size }
+        is-key = record { non_zero = non_zero (num k) (sym e ∙ key); fits = z.key }
 
         is_address : IsAddress (num a)
-        is_address = record { non_zero = non_zero (num a) (sym g ∙ address); fits = num-fits address_bytes a ab z.address_size }
+        is_address = record { non_zero = non_zero (num a) (sym g ∙ address); fits = z.address }
 
         is-kernel : IsAddress (num ka)
-        is-kernel = record { non_zero = non_zero (num ka) (sym h ∙ kernel); fits = num-fits address_bytes ka kab z.kernel_size }
+        is-kernel = record { non_zero = non_zero (num ka) (sym h ∙ kernel); fits = z.kernel_address }
 
         pub set-up-no-room : length t < first_room → Gives (outcome t (set_up_on_sizes t k a ka)) (refused_reply (code_number e7)) t
         unfolding set_up_row
@@ -66,18 +66,8 @@ module _ {t k a ka : Bytes} (z : RightSizes t k a ka) (kb : AllBytes k) (ab : Al
             rw (passes (zero-key key), passes (zero-address address), passes (zero-kernel kernel), refuses full) (refusal t e7)
 
         module _ (l : first_room ≤ length t) where
-          pub set-up-lent : SetUpLent t k a ka
-          set-up-lent =
-              record {
-                fits = z.fits;
-                long = l;
-                key_size = z.key_size;
-                address_size = z.address_size;
-                kernel_size = z.kernel_size;
-                key_is = is-key;
-                address_is = is_address;
-                kernel_is = is-kernel;
-              }
+          pub set-up-lent : SetUpLent t (num k) (num a) (num ka)
+          set-up-lent = record { fits = z.fits; long = l; key = is-key; address = is_address; kernel_address = is-kernel }
 
           pub set-up-done : {t' : Bytes} → t' ≡ bytes (length t) (fresh (num k) (num a) (num ka))
               → Gives (outcome t (set_up_on_sizes t k a ka)) (Ok Done) t'

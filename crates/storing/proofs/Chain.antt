@@ -1,62 +1,49 @@
--- Several calls on one table, one after the other. A caller keeps `Stored n t used s`: it gives what the next call requires,
--- and what that call promises of its own table and store is again `Stored` of the caller's.
-use Rattle.std.proofs.Common.{ℕ, ◌+◌, ◌*◌, ◌≤◌, arith, ◌≡◌, refl, sym, ap, ◌∙◌, ◌≢◌, true, length}
+-- Several calls on one table, one after the other. A caller keeps `Became before now s`: it gives what the next call requires,
+-- and what that call promises of the table that it was given is again `Became` of the one that the caller began with.
+use Rattle.std.proofs.Common.{ℕ, ◌*◌, ◌≤◌, arith, ◌≡◌, refl, ap, ◌∙◌, ◌≢◌, length}
 use Rattle.rules.specs.Words.{Bytes, num}
-use Rattle.rules.specs.Table.{Store, Ascending, Sized, get, put, room, store, record_form}
-use Rattle.laws.proofs.Stores.{put-length, put-zero-length, put-no-longer}
+use Rattle.rules.specs.Table.{Store, Ascending, bytes, get, put, room, store}
+use Rattle.laws.proofs.Stores.{put-zero-length, put-no-longer}
 use Rattle.laws.proofs.TableRecords.{formed, formed-within}
 use Rattle.words.specs.Words.{Holds}
-use Rattle.storing.specs.Storing.{Stored}
-
--- what `put` requires
-abbrev pub PutNeeds : (t : Bytes) (used : ℕ) (key value : Bytes) → Type 0
-PutNeeds t used key value =
-    (record_form t ≡ true)
-    × ((used ≡ length (store t))
-    × (((length key ≡ 32) × (length value ≡ 32)) × (length (put (store t) (num key) (num value)) ≤ room t)))
+use Rattle.storing.specs.Storing.{Became}
+use Rattle.storing.specs.declared.table.Table.{Table}
 
 -- a table as it came
-pub start : (t : Bytes) (used : ℕ) → record_form t ≡ true → used ≡ length (store t) → Stored (length t) t used (store t)
-start t used q h = record { table = (formed t q).layout; long = refl; form = q; stored = refl; count = h }
+pub start : (table : Table) → Became table table (store table.bytes.now)
+start table = record { lent = refl; long = refl; stored = refl }
 
-module _ {n used : ℕ} {t : Bytes} {s : Store} (h : Stored n t used s) where
+module _ {before now : Table} {s : Store} (h : Became before now s) where
   pub ascends : Ascending 0 s
-  ascends = rw (← h.stored) (formed t h.form).ascends
+  ascends = rw (← h.stored) (formed now.bytes.now now.form).ascends
 
-  pub words : Sized s
-  words = rw (← h.stored) (formed t h.form).words
+  pub counted : now.used ≡ length s
+  counted = now.count ∙ ap length h.stored
 
-  pub within : 64 * used ≤ n
-  within = omega (arith, formed-within t h.form, ap length h.stored, h.count, h.long)
+  pub within : 64 * length s ≤ length before.bytes.now
+  within = omega (arith, formed-within now.bytes.now now.form, ap length h.stored, h.long)
 
-  -- what every function on the table requires
-  pub counted : used ≡ length (store t)
-  counted = h.count ∙ ap length (sym h.stored)
+  -- the bytes that are left, which the length and the store make
+  pub written : now.bytes.now ≡ bytes (length before.bytes.now) s
+  written = rw (← h.stored, ← h.long) (formed now.bytes.now now.form).layout
 
-  -- for callers: that is met where the table has room for what `put` leaves
-  pub ready : (key value : Bytes) → length key ≡ 32 → length value ≡ 32 → 64 * length (put s (num key) (num value)) ≤ n → PutNeeds t used key value
-  unfolding room
-  ready key value hk hv r = (h.form, (counted, ((hk, hv), rw h.stored (omega (arith, r, h.long)))))
+  -- what `put`, or any other function on the table that was reached, leaves, f being what it does to a store
+  pub after : (f : Store → Store) {later : Table} → Became now later (f (store now.bytes.now)) → Became before later (f s)
+  after f e = record { lent = e.lent ∙ h.lent; long = e.long ∙ h.long; stored = e.stored ∙ ap f h.stored }
 
-  -- what `put` or `remove_procedure` leaves, f being what it does to a store
-  pub after : (f : Store → Store) {t' : Bytes} {used' : ℕ} → Stored (length t) t' used' (f (store t)) → Stored n t' used' (f s)
-  after f e = rw (← h.stored, ← h.long) e
+  -- for callers: room for what `put` leaves. The value zero needs none, nor does a key that is present.
+  pub room-for-none : (k : ℕ) → 64 * length (put s k 0) ≤ length before.bytes.now
+  room-for-none k = omega (arith, put-zero-length s k, within)
 
-  -- for callers: the room that `ready` asks for. A record more is room enough; the value zero needs none, nor does a key that is
-  -- present.
-  pub room-for-one : (k v : ℕ) → 64 * (used + 1) ≤ n → 64 * length (put s k v) ≤ n
-  room-for-one k v r = omega (arith, put-length s k v, h.count)
-
-  pub room-for-none : (k : ℕ) → 64 * length (put s k 0) ≤ n
-  room-for-none k = omega (arith, put-zero-length s k, within, h.count)
-
-  pub room-for-present : (k v : ℕ) → get s k ≢ 0 → 64 * length (put s k v) ≤ n
-  room-for-present k v present = omega (arith, put-no-longer 0 s k v ascends present, within, h.count)
+  pub room-for-present : (k v : ℕ) → get s k ≢ 0 → 64 * length (put s k v) ≤ length before.bytes.now
+  room-for-present k v present = omega (arith, put-no-longer 0 s k v ascends present, within)
 
   -- both sides of a `put`, by what the key and the value stand for
   module _ {k v : ℕ} {key value : Bytes} (slot : Holds 32 key k) (word : Holds 32 value v) where
-    pub put-ready : 64 * length (put s k v) ≤ n → PutNeeds t used key value
-    put-ready r = ready key value slot.size word.size (rw (slot.number, word.number) r)
+    pub put-ready : 64 * length (put s k v) ≤ length before.bytes.now
+        → length (put (store now.bytes.now) (num key) (num value)) ≤ room now.bytes.now
+    unfolding room
+    put-ready r = rw (h.stored, slot.number, word.number) (omega (arith, r, h.long))
 
-    pub put-after : {t' : Bytes} {used' : ℕ} → Stored (length t) t' used' (put (store t) (num key) (num value)) → Stored n t' used' (put s k v)
+    pub put-after : {later : Table} → Became now later (put (store now.bytes.now) (num key) (num value)) → Became before later (put s k v)
     put-after e = rw (slot.number, word.number) at (after (λ (x : Store). put x (num key) (num value)) e)

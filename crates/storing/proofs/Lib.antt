@@ -1,3 +1,4 @@
 pub mod Cuts
 pub mod Puts
 pub mod Chain
+pub mod Stored

@@ -12,7 +12,7 @@ use Rattle.laws.proofs.TableRecords.{Formed, formed, bytes-formed}
 use Rattle.finding.proofs.Places.{Present, Absent}
 use Rattle.closing.specs.Closing.{closed}
 use Rattle.gaps.specs.Gaps.{inserted, replaced}
-use Rattle.storing.specs.Storing.{Stored}
+use Rattle.storing.proofs.Stored.{Stored}
 use Rattle.room.proofs.Ways.{put-removes, put-replaces, put-stays, put-inserts, one_fewer, as_many, the_same, one_more}
 use Rattle.storing.proofs.Cuts.{inserted-is, closed_is, replaced-is}
 

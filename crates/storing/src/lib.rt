@@ -1,38 +1,49 @@
 #![tactic(auto)]
 // The record table written: a key is set to a value.
-ghost use Rattle.std.specs.Prelude.{◌≡◌, true, ◌≤◌, length};
-ghost use Rattle.rules.specs.Words.{word_bytes, num};
-ghost use Rattle.rules.specs.Table.{put, room, store, record_form};
-ghost use Rattle.storing.specs.Storing.{Stored};
+ghost use Rattle.std.specs.Prelude.{◌≤◌, length};
+ghost use Rattle.rules.specs.Words.{num};
+ghost use Rattle.rules.specs.Table.{put, room, store};
+ghost use Rattle.storing.specs.Storing.{SameTable, Became};
 
+pub use records::Records;
 pub use room::needed;
+pub use table::Table;
 
-// Sets a key to a value; zero removes its record. The result is how many records are then occupied.
-pub fn put(t: &mut [u8], used: usize, key: &[u8], value: &[u8]) -> usize
-    requires t_value { record_form t.old ≡ true }
-    requires used_value { used ≡ length (store t.old) }
-    requires key_len { (length key.now ≡ word_bytes) × (length value.now ≡ word_bytes) }
-    requires value_len_bound { length (put (store t.old) (num key.now) (num value.now)) ≤ room t.old }
-    ensures { Stored (length t.old) t.new result (put (store t.old) (num key.now) (num value.now)) }
-{
-    let removes = words::is_zero(value);
-    // Records are often put in ascending order, so the end is tried first.
-    match records::find_near(t, used, used, key) {
-        Ok(i) => {
-            if removes {
-                closing::close(t, i, i + 1, used);
-                used - 1
-            } else {
-                gaps::replace(t, i, value);
-                used
-            }
+mod table;
+
+impl Table<'_> {
+    // The same table, read.
+    pub fn records(&self) -> Records<'_>
+        ensures { SameTable self.now result }
+    {
+        Records {
+            bytes: self.bytes,
+            used: self.used,
         }
-        Err(i) => {
-            if removes {
-                used
-            } else {
-                gaps::insert(t, i, used, key, value);
-                used + 1
+    }
+
+    // Sets a key to a value; zero removes its record.
+    pub fn put(&mut self, key: &[u8; rules::WORD_BYTES], value: &[u8; rules::WORD_BYTES])
+        requires { length (put (store self.old.bytes.now) (num key.now) (num value.now)) ≤ room self.old.bytes.now }
+        ensures { Became self.old self.new (put (store self.old.bytes.now) (num key.now) (num value.now)) }
+    {
+        let used = self.used;
+        let removes = words::is_zero(value);
+        // Records are often put in ascending order, so the end is tried first.
+        match self.records().find_near(used, key) {
+            Ok(i) => {
+                if removes {
+                    closing::close(self.bytes, i, i + 1, used);
+                    self.used -= 1;
+                } else {
+                    gaps::replace(self.bytes, i, value);
+                }
+            }
+            Err(i) => {
+                if !removes {
+                    gaps::insert(self.bytes, i, used, key, value);
+                    self.used += 1;
+                }
             }
         }
     }

@@ -1,7 +1,7 @@
 #![tactic(auto)]
 // Sums of words compared as whole numbers.
-ghost use Rattle.std.specs.Prelude.{◌≡◌, ◌+◌, ◌<◌, ◌≤◌, leb, length};
-ghost use Rattle.rules.specs.Words.{word_bytes, num};
+ghost use Rattle.std.specs.Prelude.{◌≡◌, ◌+◌, ◌<◌, ◌≤◌, leb};
+ghost use Rattle.rules.specs.Words.{num};
 ghost use Rattle.limbs.specs.Limbs.{limb_base};
 ghost use Rattle.sums.specs.Sums.{carry_of};
 
@@ -10,9 +10,12 @@ const LIMBS: usize = rules::WORD_BYTES / limbs::LIMB_BYTES;
 
 // Whether p + q is at most a + n, for words p, q, a and n. The sums are whole numbers and never wrap: from the last limb to
 // the first, `carry` is how far a + n is ahead so far, two too large so that it is never negative.
-pub fn sums_at_most(p: &[u8], q: &[u8], a: &[u8], n: &[u8]) -> bool
-    requires p_len { (length p.now ≡ word_bytes) × (length q.now ≡ word_bytes) }
-    requires a_len { (length a.now ≡ word_bytes) × (length n.now ≡ word_bytes) }
+pub fn sums_at_most(
+    p: &[u8; rules::WORD_BYTES],
+    q: &[u8; rules::WORD_BYTES],
+    a: &[u8; rules::WORD_BYTES],
+    n: &[u8; rules::WORD_BYTES],
+) -> bool
     ensures { result ≡ leb (num p.now + num q.now) (num a.now + num n.now) }
 {
     let mut carry: u64 = 2;

@@ -1,13 +1,7 @@
 -- The row before a message's own type: what its type names, its data's length, and leading bytes.
-use Rattle.std.proofs.Common.{Ok}
-use Prim.Native.Nat.{ℕ, ◌≤◌, ◌<◌}
-use native.Mathlib.Omega.{arith}
-use mathlib.Core.Path.{◌≡◌, refl, sym, ap, ◌∙◌}
-use mathlib.Core.Bool.{Bool, true, false}
-use lib.Dec.{ltb}
-use lib.ListN.{length, length-drop}
+use Rattle.std.proofs.Common.{ℕ, ◌≤◌, ◌<◌, arith, ◌≡◌, refl, sym, ap, ◌∙◌, Bool, true, false, ltb, length, length-drop, Ok}
 use borrow.Author.Tests.{ltb-false, lt-ltb, le-ltb}
-use Rattle.rules.specs.Words.{Bytes, word_bytes}
+use Rattle.rules.specs.Words.{Bytes}
 use Rattle.rules.specs.Table.{room, store}
 use Rattle.rules.specs.Capabilities.{Kind, number}
 use Rattle.rules.specs.Messages.{Named as Meaning, null, unknown, of_kind, greatest_message, data_of, minimum, overlong, leading_bytes}
@@ -20,8 +14,9 @@ use Rattle.messages.specs.Messages.{named_of, overlong_of}
 use Rattle.messages.specs.declared.Named.{Named}
 use Rattle.messages.specs.declared.Named.TheVariants.{Null, Unknown, Of}
 use Rattle.messages.proofs.Types.{minimum-number, overlong-number}
-use Rattle.results.specs.Results.{Gives}
-use Rattle.results.proofs.Rows.{refusal, answers, refuses, passes, ends}
+use Rattle.storing.specs.declared.table.Table.{Table}
+use Rattle.results.specs.Results.{Leaves}
+use Rattle.results.proofs.Rows.{refusal, answers, leaves, refuses, passes, ends}
 use Rattle.system.specs.System.{Acceptable}
 
 -- what the source's case says of the type
@@ -74,53 +69,56 @@ module _ (d : Bytes) {m : Meaning} {n : ℕ} (named : NamesType m n) where
   has-leading e q = sym (e named.kind named.names) ∙ q
 
 -- data that is not short and has no leading bytes is what the type's own row asks
-pub acceptable : (d mask : Bytes) {m : Meaning} {n : ℕ} (named : NamesType m n) {s l : Bool} → s ≡ ltb (length d) (minimum_of n) → s ≡ false
-    → OfType n (λ k. l ≡ leading_bytes k d) → l ≡ false → length d ≤ greatest_message → length mask ≡ word_bytes → Acceptable n d mask
-acceptable d mask named e not_short g leads not_longer size =
+pub acceptable : (d : Bytes) {m : Meaning} {n : ℕ} (named : NamesType m n) {s l : Bool} → s ≡ ltb (length d) (minimum_of n) → s ≡ false
+    → OfType n (λ k. l ≡ leading_bytes k d) → l ≡ false → length d ≤ greatest_message → Acceptable n d
+acceptable d named e not_short g leads not_longer =
     record {
       kind = named.kind;
       names = named.names;
       long = ltb-false (length d) (minimum named.kind) (is-short d named e not_short);
       not_longer = not_longer;
       leads = has-leading d named g leads;
-      mask_size = size;
     }
 
-module _ (t d code mask : Bytes) (m : Meaning) where
-  abbrev row : Reply → Bytes → Type 0
-  row r t' = Gives (outcome t (do_named (room t) (store t) d code mask m)) r t'
+module _ (table : Table) (d code mask : Bytes) (m : Meaning) where
+  abbrev t : Bytes
+  t = table.bytes.now
 
-  pub null-refused : m ≡ null → 0 < length d → row (refused_reply (code_number eb)) t
+  abbrev row : Reply → Table → Type 0
+  row r after = Leaves (outcome t (do_named (room t) (store t) d code mask m)) r table after
+
+  pub null-refused : m ≡ null → 0 < length d → row (refused_reply (code_number eb)) table
   unfolding format_row named_row
-  null-refused q more = rw (q, refuses (lt-ltb 0 (length d) more)) (refusal t eb)
+  null-refused q more = leaves table (rw (q, refuses (lt-ltb 0 (length d) more)) (refusal t eb))
 
-  pub null-done : m ≡ null → length d ≤ 0 → row (Ok Done) t
+  pub null-done : m ≡ null → length d ≤ 0 → row (Ok Done) table
   unfolding format_row named_row reply_of
-  null-done q empty = rw (q, passes (le-ltb 0 (length d) empty), ends) (answers t done)
+  null-done q empty = leaves table (rw (q, passes (le-ltb 0 (length d) empty), ends) (answers t done))
 
-  pub unknown-refused : m ≡ unknown → row (refused_reply (code_number aa)) t
+  pub unknown-refused : m ≡ unknown → row (refused_reply (code_number aa)) table
   unfolding format_row named_row
-  unknown-refused q = rw (q, refuses refl) (refusal t aa)
+  unknown-refused q = leaves table (rw (q, refuses refl) (refusal t aa))
 
   module _ {n : ℕ} (named : NamesType m n) {s : Bool} (e : s ≡ ltb (length d) (minimum_of n)) where
-    pub short-refused : s ≡ true → row (refused_reply (code_number e0)) t
+    pub short-refused : s ≡ true → row (refused_reply (code_number e0)) table
     unfolding format_row named_row
-    short-refused q = rw (named.is, refuses (is-short d named e q)) (refusal t e0)
+    short-refused q = leaves table (rw (named.is, refuses (is-short d named e q)) (refusal t e0))
 
     module _ (not_short : s ≡ false) {o : Bool} (v : o ≡ overlong_of n d) where
-      pub overlong-refused : o ≡ true → row (refused_reply (code_number eb)) t
+      pub overlong-refused : o ≡ true → row (refused_reply (code_number eb)) table
       unfolding format_row named_row
-      overlong-refused q = rw (named.is, passes (is-short d named e not_short), refuses (is-overlong d named v q)) (refusal t eb)
+      overlong-refused q = leaves table (rw (named.is, passes (is-short d named e not_short), refuses (is-overlong d named v q)) (refusal t eb))
 
       module _ (not_overlong : o ≡ false) {l : Bool} (g : OfType n (λ k. l ≡ leading_bytes k d)) where
-        pub leading-refused : l ≡ true → row (refused_reply (code_number e6)) t
+        pub leading-refused : l ≡ true → row (refused_reply (code_number e6)) table
         unfolding format_row named_row
         leading-refused q =
-            rw (named.is, passes (is-short d named e not_short), passes (is-overlong d named v not_overlong), refuses (has-leading d named g q))
-            (refusal t e6)
+            leaves table
+            (rw (named.is, passes (is-short d named e not_short), passes (is-overlong d named v not_overlong), refuses (has-leading d named g q))
+            (refusal t e6))
 
-        pub own_row : l ≡ false → {r : Reply} {t' : Bytes} → OfType n (λ k. Gives (outcome t (do_kind (room t) (store t) d code mask k)) r t')
-            → row r t'
+        pub own_row : l ≡ false → {r : Reply} {after : Table} → OfType n (λ k. Leaves (outcome t (do_kind (room t) (store t) d code mask k)) r table after)
+            → row r after
         unfolding format_row named_row
         own_row q f =
             rw (named.is, passes (is-short d named e not_short), passes (is-overlong d named v not_overlong), passes (has-leading d named g q))

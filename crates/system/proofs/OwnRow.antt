@@ -1,8 +1,5 @@
 -- The row of a message's own type. A number names one type, so what is asked and shown of the type is asked and shown of the number.
-use Prim.Native.Nat.{ℕ, ◌*◌, ◌≤◌}
-use mathlib.Core.Path.{◌≡◌, sym, ◌∙◌, subst}
-use mathlib.Core.Bool.{false}
-use lib.ListN.{length}
+use Rattle.std.proofs.Common.{ℕ, ◌*◌, ◌≤◌, ◌≡◌, sym, ◌∙◌, subst, false, length}
 use Rattle.rules.specs.Words.{Bytes, word_bytes}
 use Rattle.rules.specs.Table.{room, store}
 use Rattle.rules.specs.Capabilities.{Kind, call, register, delete, set_entry, write, number}
@@ -13,10 +10,11 @@ use Rattle.rules.specs.Source.{OfType, Reply}
 use Rattle.laws.proofs.Bools.{or_left, or_right}
 use Rattle.laws.proofs.KindFacts.{number-inj}
 use Rattle.registering.specs.Registering.{NamesProcedure}
-use Rattle.results.specs.Results.{NamesKey, Gives}
+use Rattle.storing.specs.declared.table.Table.{Table}
+use Rattle.results.specs.Results.{NamesKey, Leaves}
 use Rattle.system.specs.System.{Acceptable}
 
-module _ {n : ℕ} {d mask : Bytes} (a : Acceptable n d mask) where
+module _ {n : ℕ} {d : Bytes} (a : Acceptable n d) where
   -- the type that a number names
   named-long : (kind : Kind) → n ≡ number kind → minimum kind ≤ length d
   named-long kind q = subst (λ (k : Kind). minimum k ≤ length d) (number-inj a.kind kind (a.names ∙ q)) a.long
@@ -62,8 +60,9 @@ module _ {n : ℕ} {d mask : Bytes} (a : Acceptable n d mask) where
   write-long q = named-long write q
 
 -- what is shown of a kind is shown of its number
-pub shown-of-kind : (t d code mask : Bytes) (kind : Kind) {n : ℕ} → n ≡ number kind → {r : Reply} {t' : Bytes}
-    → Gives (outcome t (do_kind (room t) (store t) d code mask kind)) r t'
-    → OfType n (λ k. Gives (outcome t (do_kind (room t) (store t) d code mask k)) r t')
-shown-of-kind t d code mask kind e {r} {t'} g k q =
-    subst (λ (x : Kind). Gives (outcome t (do_kind (room t) (store t) d code mask x)) r t') (sym (number-inj k kind (q ∙ e))) g
+pub shown-of-kind : (table : Table) (d code mask : Bytes) (kind : Kind) {n : ℕ} → n ≡ number kind → {r : Reply} {after : Table}
+    → (let t = table.bytes.now in Leaves (outcome t (do_kind (room t) (store t) d code mask kind)) r table after)
+    → (let t = table.bytes.now in OfType n (λ k. Leaves (outcome t (do_kind (room t) (store t) d code mask k)) r table after))
+shown-of-kind table d code mask kind e {r} {after} g k q =
+    let t = table.bytes.now in
+    subst (λ (x : Kind). Leaves (outcome t (do_kind (room t) (store t) d code mask x)) r table after) (sym (number-inj k kind (q ∙ e))) g

@@ -1,39 +1,51 @@
 #![tactic(auto)]
 // A message on a sound table, up to the row of its own type.
-ghost use Rattle.std.specs.Prelude.{◌≡◌, ◌≤◌, length};
-ghost use Rattle.rules.specs.Words.{word_bytes};
+ghost use Rattle.std.specs.Prelude.{◌≡◌, ◌≤◌, true, length};
 ghost use Rattle.rules.specs.Table.{room, store};
+ghost use Rattle.rules.specs.Sound.{sound_table};
 ghost use Rattle.rules.specs.Messages.{greatest_message, type_of, data_of, named};
 ghost use Rattle.rules.specs.Answers.{outcome};
 ghost use Rattle.rules.specs.Calls.{do_kind, do_named};
 ghost use Rattle.rules.specs.Source.{OfType};
-ghost use Rattle.results.specs.Results.{SoundWith, Gives};
+ghost use Rattle.results.specs.Results.{Leaves};
 ghost use Rattle.system.specs.System.{Acceptable};
 
 use messages::Named;
 use rules::{Kind, Refusal, Reply, Success};
+use storing::Table;
 
 // The row of a message's own type, on a sound table.
-fn of_kind(t: &mut [u8], used: usize, kind: Kind, d: &[u8], code: &[u8], mask: &[u8]) -> Reply
-    requires sound_with { SoundWith t.old used }
-    requires acceptable { Acceptable kind.0 d.now mask.now }
-    ensures { OfType kind.0 (λ k. Gives (outcome t.old (do_kind (room t.old) (store t.old) d.now code.now mask.now k)) result t.new) }
+fn of_kind(
+    table: &mut Table,
+    kind: Kind,
+    d: &[u8],
+    code: &[u8],
+    mask: &[u8; rules::WORD_BYTES],
+) -> Reply
+    requires sound_table { sound_table table.old.bytes.now ≡ true }
+    requires acceptable { Acceptable kind.0 d.now }
+    ensures { OfType kind.0 (λ k. Leaves (outcome table.old.bytes.now (do_kind (room table.old.bytes.now) (store table.old.bytes.now) d.now code.now mask.now k)) result table.old table.new) }
 {
     match kind {
-        Kind::CALL => calls::call(t, used, d),
-        Kind::REGISTER => registering::register(t, used, d, code, mask),
-        Kind::DELETE => deleting::delete(t, used, d),
-        Kind::SET_ENTRY => calls::set_entry(t, used, d),
-        _ => calls::write(t, used, d),
+        Kind::CALL => calls::call(table.records(), d),
+        Kind::REGISTER => registering::register(table, d, code, mask),
+        Kind::DELETE => deleting::delete(table, d),
+        Kind::SET_ENTRY => calls::set_entry(table, d),
+        _ => calls::write(table, d),
     }
 }
 
 // A message on a sound table: aa; then Null, which is 66 eb with data and succeeds without; 66 e0 for short data, 66 eb, 66 e6;
 // then its type's own row.
-pub fn of_message(t: &mut [u8], used: usize, message: &[u8], code: &[u8], mask: &[u8]) -> Reply
-    requires sound_with { SoundWith t.old used }
-    requires message_len_bound { (length message.now ≤ greatest_message) × (length mask.now ≡ word_bytes) }
-    ensures { Gives (outcome t.old (do_named (room t.old) (store t.old) (data_of message.now) code.now mask.now (named (type_of message.now)))) result t.new }
+pub fn of_message(
+    table: &mut Table,
+    message: &[u8],
+    code: &[u8],
+    mask: &[u8; rules::WORD_BYTES],
+) -> Reply
+    requires sound_table { sound_table table.old.bytes.now ≡ true }
+    requires message_len_bound { length message.now ≤ greatest_message }
+    ensures { Leaves (outcome table.old.bytes.now (do_named (room table.old.bytes.now) (store table.old.bytes.now) (data_of message.now) code.now mask.now (named (type_of message.now)))) result table.old table.new }
 {
     let d = messages::data_of(message);
     match messages::named_by(message) {
@@ -58,7 +70,7 @@ pub fn of_message(t: &mut [u8], used: usize, message: &[u8], code: &[u8], mask: 
             if leading {
                 return Err(Refusal::LEADING_BYTES);
             }
-            of_kind(t, used, kind, d, code, mask)
+            of_kind(table, kind, d, code, mask)
         }
     }
 }

@@ -23,7 +23,7 @@ fn run(t: &[u8]) -> Option<usize>
 {
     let n = t.len() / rules::RECORD_SIZE;
     for i in 0..n {
-        if words::is_zero(moves::word_at(t, rules::RECORD_SIZE * i + rules::WORD_BYTES)) {
+        if words::is_zero_word(moves::word_at(t, rules::RECORD_SIZE * i + rules::WORD_BYTES)) {
             return Some(i);
         }
         if !climbs(t, i) {

@@ -1,7 +1,8 @@
 #![tactic(auto)]
-// The library tied to the demands: each function calls one of `beaker` and does nothing more, and its contract is demands 1 and 2, for
-// every input. One of `beaker` whose contract says less is refused here, and one whose body does less than its contract there. The
-// exports of `beaker_c` are those functions, each under the contract that it has in `beaker`. No host calls the ones here.
+// The library tied to the demands: each function calls one of `beaker` and does nothing more, and its contract is demands 1 and
+// 2, for every input. One of `beaker` whose contract says less is refused here, and one whose body does less than its contract
+// there. The exports of `beaker_c` are those functions, each under the contract that it has in `beaker`. No host calls the ones
+// here.
 ghost use Rattle.demands.specs.Kernels.{state_of, setting_up, turning, looking, calling};
 ghost use Rattle.tied.specs.Tied.{Demanded};
 

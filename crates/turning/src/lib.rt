@@ -1,23 +1,22 @@
 #![tactic(auto)]
 // Turn on a sound table: the check that is left of its row, then its effect.
-ghost use Rattle.std.specs.Prelude.{◌≡◌, length};
-ghost use Rattle.rules.specs.Words.{key_bytes};
+ghost use Rattle.std.specs.Prelude.{◌≡◌, true};
+ghost use Rattle.rules.specs.Sound.{sound_table};
 ghost use Rattle.rules.specs.Answers.{outcome};
-ghost use Rattle.results.specs.Results.{SoundWith, Gives};
+ghost use Rattle.results.specs.Results.{Leaves};
 ghost use Rattle.turning.specs.Turning.{turn_on_sound};
 
 use rules::{Refusal, Reply, Success};
+use storing::Table;
 
 // 66 33; then the current slot alone changes.
-pub fn turn_to(t: &mut [u8], used: usize, key: &[u8]) -> Reply
-    requires sound_with { SoundWith t.old used }
-    requires key_len { length key.now ≡ key_bytes }
-    ensures { Gives (outcome t.old (turn_on_sound t.old key.now)) result t.new }
+pub fn turn_to(table: &mut Table, key: &[u8; rules::KEY_BYTES]) -> Reply
+    requires { sound_table table.old.bytes.now ≡ true }
+    ensures { Leaves (outcome table.old.bytes.now (turn_on_sound table.old.bytes.now key.now)) result table.old table.new }
 {
-    if !acting::is_listed(t, used, key) {
+    if !acting::is_listed(table.records(), key) {
         return Err(Refusal::NOT_LISTED);
     }
-    let slot = slots::current_slot();
-    storing::put(t, used, &slot, &right::right_word(key));
+    table.put(&slots::current_slot(), &right::right_word(key));
     Ok(Success::Done)
 }

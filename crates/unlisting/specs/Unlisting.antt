@@ -1,20 +1,19 @@
 -- What the functions that take a procedure off the list ask and promise, where the rules have no name for it.
-use Rattle.std.specs.Prelude.{ℕ, ◌≡◌, true, length}
-use Rattle.rules.specs.Words.{Bytes, key_bytes, num}
+use Rattle.std.specs.Prelude.{ℕ, ◌≡◌, true}
+use Rattle.rules.specs.Words.{Bytes}
 use Rattle.rules.specs.Table.{Store, put, store}
 use Rattle.rules.specs.KernelStorage.{index_slot, place_slot}
 use Rattle.rules.specs.Procedures.{list_length, key_at, InList, listed}
-use Rattle.results.specs.Results.{SoundWith}
+use Rattle.rules.specs.Sound.{sound_table}
 
--- a sound table with `used` occupied records, and a listed procedure's key
-pub record Unlistable (t : Bytes) (used : ℕ) (procedure : Bytes) : Type 0 where
-  pub table : SoundWith t used
-  pub key : length procedure ≡ key_bytes
-  pub is_listed : listed (store t) (num procedure) ≡ true
+-- a sound table, and a listed procedure's key
+pub record Unlistable (t : Bytes) (p : ℕ) : Type 0 where
+  pub sound : sound_table t ≡ true
+  pub is_listed : listed (store t) p ≡ true
 
 -- a sound table whose list has `places` places, and one of them
-pub record Movable (t : Bytes) (used places freed : ℕ) : Type 0 where
-  pub table : SoundWith t used
+pub record Movable (t : Bytes) (places freed : ℕ) : Type 0 where
+  pub sound : sound_table t ≡ true
   pub all : places ≡ list_length (store t)
   pub in_list : InList (store t) freed
 

@@ -1,11 +1,26 @@
 #![tactic(auto)]
-// Words in slices: 32 bytes, most significant first. They are compared as whole numbers.
-ghost use Rattle.std.specs.Prelude.{◌≡◌, min, leb, ltb, length};
-ghost use Rattle.rules.specs.Words.{word_bytes, num};
+// Words: 32 bytes, most significant first. They are compared as whole numbers.
+ghost use Rattle.std.specs.Prelude.{◌≡◌, min, eqb, leb, ltb};
+ghost use Rattle.rules.specs.Words.{num};
 ghost use Rattle.words.specs.Words.{small_limit};
 
 pub use equality::{is_blank, is_zero, same};
 pub use sums::sums_at_most;
+
+// Whether two words are the same. (One function over the length was tried: a proof does not know of the bytes of an array of
+// unknown length that they are below 256.)
+pub fn same_word(a: &[u8; rules::WORD_BYTES], b: &[u8; rules::WORD_BYTES]) -> bool
+    ensures { result ≡ eqb (num a.now) (num b.now) }
+{
+    a == b
+}
+
+// Whether a word is zero: asked of every value of a table, and so of the array, which is judged at once and not byte by byte.
+pub fn is_zero_word(word: &[u8; rules::WORD_BYTES]) -> bool
+    ensures { result ≡ eqb (num word.now) 0 }
+{
+    *word == [0; rules::WORD_BYTES]
+}
 
 // Where a word's last limb is.
 const LAST_LIMB: usize = rules::WORD_BYTES - limbs::LIMB_BYTES;
@@ -13,10 +28,9 @@ const LAST_LIMB: usize = rules::WORD_BYTES - limbs::LIMB_BYTES;
 // A word's limbs.
 const LONG_LIMBS: usize = rules::WORD_BYTES / limbs::LONG_LIMB_BYTES;
 
-// Whether word a is less than word b: the first of the four limbs that differs decides. (`a < b` of the slices takes 8 to 26 times
-// as long, `<` of two arrays of limbs two to four times.)
-pub fn below(a: &[u8], b: &[u8]) -> bool
-    requires { (length a.now ≡ word_bytes) × (length b.now ≡ word_bytes) }
+// Whether word a is less than word b: the first of the four limbs that differs decides. (`a < b` of the slices takes 8 to 26
+// times as long, `<` of two arrays of limbs two to four times.)
+pub fn below(a: &[u8; rules::WORD_BYTES], b: &[u8; rules::WORD_BYTES]) -> bool
     ensures { result ≡ ltb (num a.now) (num b.now) }
 {
     for i in 0..LONG_LIMBS {
@@ -30,8 +44,7 @@ pub fn below(a: &[u8], b: &[u8]) -> bool
 }
 
 // Whether word a is at most word b.
-pub fn at_most(a: &[u8], b: &[u8]) -> bool
-    requires { (length a.now ≡ word_bytes) × (length b.now ≡ word_bytes) }
+pub fn at_most(a: &[u8; rules::WORD_BYTES], b: &[u8; rules::WORD_BYTES]) -> bool
     ensures { result ≡ leb (num a.now) (num b.now) }
 {
     !below(b, a)
@@ -41,8 +54,7 @@ pub fn at_most(a: &[u8], b: &[u8]) -> bool
 pub const SMALL_LIMIT: usize = limbs::LIMB_BASE as usize;
 
 // The number of a word, or 2^32 where it is not less: a count, an index or a length is judged as a whole word, never cut.
-pub fn small(word: &[u8]) -> usize
-    requires { length word.now ≡ word_bytes }
+pub fn small(word: &[u8; rules::WORD_BYTES]) -> usize
     ensures { result ≡ min (num word.now) small_limit }
 {
     if equality::is_zero(&word[0..LAST_LIMB]) {

@@ -1,20 +1,63 @@
 #![tactic(auto)]
-// Text written into a lent buffer: a character, bytes in hex. Each function is told where the text begins and returns where it ends:
-// std's `Write` of a slice does not promise which bytes it leaves there, and `Wrote` names each.
-ghost use Rattle.std.specs.Prelude.{◌+◌, ◌*◌, ◌≤◌, ◌<◌, ◌≡◌, [], ◌∷◌, length};
+// Text written into a lent buffer: a character, bytes in hex. std's `Write` of a slice does not promise which bytes it leaves
+// there, and `Wrote` names each.
+ghost use Rattle.std.specs.Prelude.{◌*◌, ◌≤◌, ◌<◌, ◌≡◌, [], ◌∷◌, length, take};
 ghost use Rattle.rules.specs.Program.{hex_digit, hex};
-ghost use Rattle.writing.specs.Wrote.{Wrote};
+ghost use Rattle.writing.specs.Wrote.{room, Wrote};
 
-// One character.
-pub fn put(out: &mut [u8], at: usize, character: u8) -> usize
-    requires { at < length out.old }
-    ensures { Wrote out.old at (character ∷ []) result out.new }
-{
-    out[at] = character;
-    at + 1
+mod text;
+
+pub use text::Text;
+
+impl<'a> Text<'a> {
+    // How many bytes more can be written.
+    pub fn room(&self) -> usize
+        ensures { result ≡ room self.now }
+    {
+        self.bytes.len() - self.end
+    }
+
+    // What is written.
+    pub fn written(&self) -> &[u8]
+        ensures { result.now ≡ take self.now.end self.now.bytes.now }
+    {
+        &self.bytes[..self.end]
+    }
+
+    // One character.
+    pub fn put(&mut self, character: u8)
+        requires { 1 ≤ room self.old }
+        ensures { Wrote self.old (character ∷ []) self.new }
+    {
+        self.bytes[self.end] = character;
+        self.end += 1;
+    }
+
+    // Bytes in hex.
+    pub fn put_hex(&mut self, bytes: &[u8])
+        requires { 2 * length bytes.now ≤ room self.old }
+        ensures { Wrote self.old (hex bytes.now) self.new }
+    {
+        let end = self.end + 2 * bytes.len();
+        write_hex(&mut self.bytes[self.end..end], bytes);
+        self.end = end;
+    }
 }
 
-// The digit of a value below 16. A table of the digits takes `put_hex` three times as long: without one it writes many bytes at a time.
+// Bytes in hex, over all of a slice: behind a `Text` a loop would keep its end in memory, a byte at a time.
+fn write_hex(out: &mut [u8], bytes: &[u8])
+    requires { length out.old ≡ 2 * length bytes.now }
+    ensures { out.new ≡ hex bytes.now }
+{
+    for (i, byte) in bytes.iter().enumerate() {
+        let at = 2 * i;
+        out[at] = digit(byte / 16);
+        out[at + 1] = digit(byte % 16);
+    }
+}
+
+// The digit of a value below 16. By no table of the digits: with one the loop writes a byte at a time, and takes four times
+// as long.
 #[tactic(auto, unfolding(rules::specs::Program::hex_digit))]
 fn digit(value: u8) -> u8
     requires { value < 16 }
@@ -25,25 +68,4 @@ fn digit(value: u8) -> u8
     } else {
         b'a' - 10 + value
     }
-}
-
-// A byte's two digits.
-pub fn put_byte(out: &mut [u8], at: usize, byte: u8) -> usize
-    requires { at + 2 ≤ length out.old }
-    ensures { Wrote out.old at (hex (byte ∷ [])) result out.new }
-{
-    let low = put(out, at, digit(byte / 16));
-    put(out, low, digit(byte % 16))
-}
-
-// Bytes in hex.
-pub fn put_hex(out: &mut [u8], at: usize, bytes: &[u8]) -> usize
-    requires { at + 2 * length bytes.now ≤ length out.old }
-    ensures { Wrote out.old at (hex bytes.now) result out.new }
-{
-    let mut end = at;
-    for byte in bytes {
-        end = put_byte(out, end, *byte);
-    }
-    end
 }

@@ -1,10 +1,7 @@
 -- The returns in order: the decoded message is the line's; the line has none.
+use Rattle.std.proofs.Common.{refl, rules}
 use Rattle.answering.proofs.Steps.{message-in, no-message}
 use Rattle.answering.specs.Answering.{answer_of}
-use native.Mathlib.Omega.{arith}
-use mathlib.Core.Path.{refl}
-use lib.ListN.{length-take}
-use borrow.Author.Rules.{rules}
 use Rattle.answering.proofs.answer_line.Goals as goal
 
 pub slice_bounds-answer_message-end : goal.slice_bounds-answer_message-end
@@ -12,16 +9,9 @@ slice_bounds-answer_message-end c =
     let fits = (message-in c.in-Some.ensures _ refl).1 in
     search rules
 
-pub answer_message-requires : goal.answer_message-requires
-answer_message-requires c =
-    let fits = (message-in c.in-Some.ensures _ refl).1 in
-    (simp length-take (omega arith), search rules)
-
 pub returns-in-Some : goal.returns-in-Some
-returns-in-Some c =
-    rw (message-in c.in-Some.ensures _ refl).0 c.answer_message.ensures
+returns-in-Some c = rw (message-in c.in-Some.ensures _ refl).0 c.answer_message.ensures
 
 pub returns-in-None : goal.returns-in-None
 unfolding answer_of
-returns-in-None c =
-    rw (no-message c.in-None.ensures refl) (record { wrote = c.print_other.ensures; changed = refl })
+returns-in-None c = rw (no-message c.in-None.ensures refl) (record { wrote = c.print_other.ensures; changed = refl })

@@ -1,7 +1,7 @@
 -- The reply and its payload give the answer (`message-answered`).
+use Rattle.std.proofs.Common.{rules}
 use Rattle.answering.proofs.Steps.{payload-short, message-answered}
 use Rattle.rules.specs.Program.{program_code}
-use borrow.Author.Rules.{rules}
 use Rattle.answering.proofs.answer_message.Goals as goal
 
 pub print-requires : goal.print-requires
@@ -12,6 +12,4 @@ print-requires c =
 
 pub returns : goal.returns
 unfolding program_code
-returns c =
-    let mask = c.mask-mask.ensures in
-    message-answered _ _ (rw mask at c.system_call-reply.ensures) c.payload.ensures c.print.ensures
+returns c = message-answered _ _ (rw c.mask-mask.ensures at c.system_call-reply.ensures) c.payload.ensures c.print.ensures

@@ -2,15 +2,11 @@
 use Rattle.appending.proofs.First.{place-takes, new-needs, appended}
 use Rattle.appending.proofs.append.Goals as goal
 
-pub put_place-listed-requires : goal.put_place-listed-requires
-put_place-listed-requires c =
-    let need = c.requires in
-    record { takes = place-takes need; procedure_len = need.key }
+pub put_place-requires : goal.put_place-requires
+put_place-requires c = place-takes c.requires
 
 pub insert_procedure-requires : goal.insert_procedure-requires
-insert_procedure-requires c =
-    new-needs c.requires c.put_place-listed.ensures
+insert_procedure-requires c = new-needs c.requires c.put_place.ensures
 
 pub returns : goal.returns
-returns c =
-    appended c.requires c.put_place-listed.ensures c.insert_procedure.ensures
+returns c = appended c.requires c.put_place.ensures c.insert_procedure.ensures

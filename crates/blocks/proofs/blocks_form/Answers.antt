@@ -4,7 +4,7 @@ use Rattle.blocks.proofs.Walking.{walk-starts, has-record, after_first, later-tu
 use Rattle.blocks.proofs.blocks_form.Goals as goal
 
 pub loop-i-init : goal.loop-i-init
-loop-i-init c = walk-starts c.requires.laid c.first_record-first.ensures
+loop-i-init c = walk-starts c.requires c.first_record-first.ensures
 
 pub continues-requires : goal.continues-requires
 continues-requires c = has-record c.loop-i.invariant (search rules)

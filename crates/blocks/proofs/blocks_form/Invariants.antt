@@ -4,7 +4,7 @@ use Rattle.blocks.proofs.Walking.{Walking}
 use Rattle.blocks.proofs.blocks_form.Given as goal
 
 abbrev pub invariant-loop-i : goal.invariant-loop-i
-invariant-loop-i l = Walking l.t l.list l.places l.first l.i l.blocks l.count
+invariant-loop-i l = Walking l.table l.list l.places l.first l.i l.blocks l.count
 
 abbrev pub decreases-loop-i : goal.decreases-loop-i
 decreases-loop-i l = l.list + 1 - l.i

@@ -7,4 +7,4 @@ use Rattle.blocks.proofs.first_record.Goals as goal
 
 pub returns : goal.returns
 returns c =
-    c.keys_below.ensures ∙ ap (keys_below (store c.args.t.now)) (c.address_slot.ensures.number ∙ first_key)
+    c.keys_below.ensures ∙ ap (keys_below (store c.args.table.bytes.now)) (c.address_slot.ensures.number ∙ first_key)

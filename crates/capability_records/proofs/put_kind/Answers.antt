@@ -3,15 +3,15 @@ use Rattle.std.proofs.Common.{rules, ◌≡◌}
 use Rattle.capability_records.proofs.Requested.{kind-pass, kind-ready, kind-turn, kind-full, kind-end}
 use Rattle.capability_records.proofs.put_kind.Goals as goal
 
-pub put_words-stored-requires : goal.put_words-stored-requires
-put_words-stored-requires c =
+pub put_words-requires : goal.put_words-requires
+put_words-requires c =
     let same : c.in-Some.request.kind.0 ≡ c.args.kind.0 = search rules in
     kind-ready c.loop-request.invariant c.in-Some.ensures.steps same
 
 pub loop-request-preserved-then-eq : goal.loop-request-preserved-then-eq
 loop-request-preserved-then-eq c =
     let same : c.in-Some.request.kind.0 ≡ c.args.kind.0 = search rules in
-    kind-turn c.loop-request.invariant c.in-Some.ensures.steps same c.put_words-stored.ensures
+    kind-turn c.loop-request.invariant c.in-Some.ensures.steps same c.put_words.ensures
 
 pub loop-request-preserved : goal.loop-request-preserved
 loop-request-preserved c =

@@ -8,5 +8,5 @@ pub returns : goal.returns
 unfolding closed
 returns c =
     let a = c.args in
-    close-leaves a.t.now c.copy_within.new.self c.clear.new.bytes (64 * a.i) (64 * a.j) (64 * a.used) (omega arith) (omega arith) (omega arith)
-    c.copy_within.ensures.after c.clear.ensures
+    close-leaves a.t.now c.copy_within.new.self c.fill.new.self (64 * a.i) (64 * a.j) (64 * a.used) (omega arith) (omega arith) (omega arith)
+    c.copy_within.ensures.after (c.fill.ensures.after (λ y e. e))

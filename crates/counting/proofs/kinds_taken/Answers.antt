@@ -1,6 +1,5 @@
 -- The types that are requested are the counts that are not zero.
-use Rattle.std.proofs.Common.{rules, ◌≡◌, not}
-use Rattle.std.specs.Prelude.{count_by, eqb}
+use Rattle.std.proofs.Common.{rules, ◌≡◌, not, count_by, eqb}
 use Rattle.rules.specs.Messages.{requests}
 use Rattle.counting.proofs.Counting.{counted-kinds}
 use Rattle.counting.proofs.kinds_taken.Goals as goal

@@ -1,5 +1,5 @@
 -- The kinds that are requested and the words that are not zero are the records that are not zero.
-use native.Mathlib.Omega.{arith}
+use Rattle.std.proofs.Common.{arith}
 use Rattle.rules.specs.Messages.{requests}
 use Rattle.counting.proofs.AnyOrder.{counted-anyhow}
 use Rattle.counting.proofs.records_needed.Goals as goal

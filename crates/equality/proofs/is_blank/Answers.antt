@@ -6,7 +6,7 @@ use Rattle.std.proofs.lemmas.Iterator.{cases_from_all, YieldsList-from_slice}
 use Rattle.rules.specs.Words.{num}
 use Rattle.laws.proofs.Numerals.{all-bytes}
 use Rattle.equality.proofs.Bytes.{blocks, blocks-decide}
-use Rattle.equality.proofs.ByLimbs.{rest-not-zero}
+use Rattle.equality.proofs.Parts.{rest-not-zero}
 use Rattle.equality.proofs.is_blank.Goals as goal
 
 pub returns-then-is_zero : goal.returns-then-is_zero

@@ -4,18 +4,17 @@ use Rattle.feeding.proofs.Ends.{index-some, index-none}
 use Rattle.feeding.proofs.Rounds.{feeding-none, feeding-more, feeding-full, feeding-kept}
 use Rattle.feeding.proofs.feed.Goals as goal
 
-pub loop-out-init : goal.loop-out-init
-loop-out-init c = feeding-none _ _ _ _
+pub loop-length-init : goal.loop-length-init
+loop-length-init c = feeding-none _ _ _ _
 
 pub returns-in_default : goal.returns-in_default
 returns-in_default c =
-    feeding-kept c.loop-out.invariant (search rules) (index-none c.args.piece.now c.loop-out.at (sym c.line_length.ensures ∙ c.in_default.is)) _ c.keep.ensures
+    feeding-kept c.loop-length.invariant (search rules) (index-none c.args.piece.now c.loop-length.at (sym c.line_length.ensures ∙ c.in_default.is)) _ c.keep.ensures
 
-pub loop-out-preserved : goal.loop-out-preserved
-loop-out-preserved c =
-    let end = index-some c.args.piece.now c.loop-out.at c.in-Some.length (sym c.line_length.ensures ∙ c.in-Some.is) in
-    feeding-more c.loop-out.invariant _ (search rules) (omega arith) (omega arith) (search rules) (search rules)
-    c.answer_rest-used.ensures
+pub loop-length-preserved : goal.loop-length-preserved
+loop-length-preserved c =
+    let end = index-some c.args.piece.now c.loop-length.at c.in-Some.length (sym c.line_length.ensures ∙ c.in-Some.is) in
+    feeding-more c.loop-length.invariant _ (search rules) (omega arith) (omega arith) (search rules) c.answer_rest.ensures
 
 pub returns : goal.returns
-returns c = feeding-full c.loop-out.invariant (search rules)
+returns c = feeding-full c.loop-length.invariant (search rules)

@@ -1,5 +1,5 @@
 -- The last line is empty, or is answered as every other.
-use Rattle.std.proofs.Common.{◌≡◌, false, length, refl, arith, rules}
+use Rattle.std.proofs.Common.{◌≡◌, false, length, refl, arith}
 use Rattle.writing.proofs.Texts.{wrote_none}
 use Rattle.feeding.proofs.Prints.{finished-empty, finished-left}
 use Rattle.feeding.proofs.finish.Goals as goal
@@ -9,8 +9,7 @@ pub returns-then-is_empty : goal.returns-then-is_empty
 returns-then-is_empty c =
     let whole : c.args.long ≡ false = grind arith in
     let empty : length c.args.line.now ≡ 0 = grind arith in
-    rw (whole, finished-empty c.args.t.now c.args.line.now empty)
-    (record { wrote = wrote_none _ _ (search rules); changed = refl })
+    rw (whole, finished-empty c.args.t.now c.args.line.now empty) (record { wrote = wrote_none _; changed = refl })
 
 pub returns : goal.returns
 returns c =

@@ -1,6 +1,5 @@
 -- The loop's invariant is `Written`: what is written for the types before the index. After the last type all is computed.
-use Rattle.std.proofs.Common.{refl}
-use native.Mathlib.Omega.{arith}
+use Rattle.std.proofs.Common.{arith, refl}
 use Rattle.founding.proofs.FirstSeries.{written-none, written-within, written-more, written-all, next_at, bytes_after}
 use Rattle.rules.specs.Source.{words_of}
 use Rattle.rules.proofs.Computing.{computing}

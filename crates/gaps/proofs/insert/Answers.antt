@@ -8,7 +8,7 @@ pub returns : goal.returns
 unfolding inserted
 returns c =
     let a = c.args in
-    let first = c.copy_word in
-    let second = c.copy_word-2 in
+    let first = c.copy_from_slice in
+    let second = c.copy_from_slice-2 in
     insert-leaves a.t.now c.copy_within.new.self (64 * a.i) (64 * a.used) (omega arith) (omega arith) c.copy_within.ensures.after
-    a.key.now a.value.now first.new.to second.new.to first.ensures second.ensures (search rules) (search rules)
+    a.key.now a.value.now first.new.self second.new.self first.ensures.after second.ensures.after (search rules) (search rules)

@@ -9,4 +9,4 @@ unfolding opened
 returns c =
     let a = c.args in
     open-leaves a.t.now c.copy_within.new.self (64 * a.i) (64 * a.count) (64 * a.used) (omega arith) (omega arith) c.copy_within.ensures.after
-    c.clear.new.bytes c.clear.ensures
+    c.fill.new.self (c.fill.ensures.after (λ y e. e))

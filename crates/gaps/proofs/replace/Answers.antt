@@ -12,5 +12,5 @@ pub returns : goal.returns
 unfolding replaced
 returns c =
     let a = c.args in
-    let copy = c.copy_word in
-    replace-leaves a.t.now a.value.now copy.new.to (64 * a.i + 32) (64 * a.i + 64) (omega arith) copy.ensures
+    let copy = c.copy_from_slice in
+    replace-leaves a.t.now a.value.now copy.new.self (64 * a.i + 32) (64 * a.i + 64) (omega arith) copy.ensures.after

@@ -6,4 +6,4 @@ use Rattle.grants.proofs.Going.{Going}
 use Rattle.grants.proofs.judge_requests.Given as goal
 
 abbrev pub invariant-loop-request : goal.invariant-loop-request
-invariant-loop-request l = Going (store l.t) l.d (num l.registrar) l.copies l.reading l.request-iterator l.tests
+invariant-loop-request l = Going (store l.table.bytes.now) l.d (num l.registrar) l.held l.request-iterator l.tests

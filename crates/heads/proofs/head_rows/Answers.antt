@@ -21,7 +21,7 @@ pub returns-then-is_address : goal.returns-then-is_address
 returns-then-is_address c =
     elim c.if-begin.branch [
       | then-begin w ↦
-          index-if c.args.t.now c.args.i c.word_at-key.ensures c.word_at.ensures c.begin.ensures w.if-begin.true
+          index-if c.args.table.bytes.now c.args.i c.word_at-key.ensures c.word_at.ensures c.begin.ensures w.if-begin.true
           w.word_at-then-begin.ensures w.is_address.ensures (sym w.value-is ∙ c.if-is_address.true) c.word_at-then-is_address.ensures
           c.middle_of.ensures c.names.ensures
       | else-begin w ↦ absurd (true≢false (sym c.if-is_address.true ∙ w.value-is ∙ w.if-begin.false))
@@ -32,7 +32,7 @@ returns-else-is_address c =
     c.if-is_address.false
     ∙ elim c.if-begin.branch [
       | then-begin w ↦
-          no_address c.args.t.now c.args.i c.word_at-key.ensures c.word_at.ensures c.begin.ensures w.if-begin.true
+          no_address c.args.table.bytes.now c.args.i c.word_at-key.ensures c.word_at.ensures c.begin.ensures w.if-begin.true
           w.word_at-then-begin.ensures w.is_address.ensures (sym w.value-is ∙ c.if-is_address.false)
-      | else-begin w ↦ no-head c.args.t.now c.args.i c.word_at-key.ensures c.word_at.ensures c.begin.ensures w.if-begin.false
+      | else-begin w ↦ no-head c.args.table.bytes.now c.args.i c.word_at-key.ensures c.word_at.ensures c.begin.ensures w.if-begin.false
     ]

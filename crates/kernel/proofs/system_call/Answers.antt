@@ -1,16 +1,15 @@
 -- Each return is a place in the row.
 -- The returns in order: 66 ed; 66 e0; 66 ea; 66 ef; the message's row.
-use Rattle.std.proofs.Common.{refl}
+use Rattle.std.proofs.Common.{refl, rules, ap, ◌≡◌, ◌∙◌, Err}
 use Rattle.std.proofs.lemmas.Result.{err_from_is_err_and}
 use Rattle.rules.specs.Answers.{code_number}
-use Rattle.kernel.proofs.FirstChecks.{not_sound, its-code, is-sound, sound-with}
+use Rattle.kernel.proofs.FirstChecks.{unsound-refused, is-sound, sound, is-form, is-count}
 use Rattle.kernel.proofs.SystemRow.{mask-wrong, call-unsound, call-empty, call-too-long, call-message}
-use borrow.Author.Rules.{rules}
 use Rattle.kernel.proofs.system_call.Goals as goal
 
-pub returns-then-mask-ne-WORD_BYTES : goal.returns-then-mask-ne-WORD_BYTES
+pub returns-in_default : goal.returns-in_default
 unfolding code_number
-returns-then-mask-ne-WORD_BYTES c =
+returns-in_default c =
     mask-wrong c.args.t.now c.args.message.now c.args.code.now c.args.mask.now (search rules)
 
 pub returns-then-is_empty : goal.returns-then-is_empty
@@ -25,19 +24,24 @@ returns-then-message-gt-GREATEST_MESSAGE c =
     call-too-long c.args.t.now c.args.message.now c.args.code.now c.args.mask.now (search rules)
     (is-sound c.args.t.now c.in_ok-used.ensures refl) (search rules) (search rules)
 
-pub of_message-requires : goal.of_message-requires
-of_message-requires c =
-    record { sound_with = sound-with c.args.t.now c.in_ok-used.ensures refl; message_len_bound = search rules }
+pub invariant_of-of_message : goal.invariant_of-of_message
+invariant_of-of_message c =
+    let t = c.args.t.now in
+    record { form = is-form t c.in_ok-used.ensures refl; count = is-count t c.in_ok-used.ensures refl }
+
+pub of_message-requires-clause-sound_table : goal.of_message-requires-clause-sound_table
+of_message-requires-clause-sound_table c = sound c.args.t.now c.in_ok-used.ensures refl
 
 pub returns-in_err-used : goal.returns-in_err-used
-unfolding code_number
 returns-in_err-used c =
     let p = err_from_is_err_and c.from_residual.result c.from_residual.ensures.1 in
-    rw (p.1, p.2, its-code c.args.t.now c.in_err-used.ensures refl)
-    (call-unsound c.args.t.now c.args.message.now c.args.code.now c.args.mask.now (search rules)
-    (not_sound c.args.t.now c.in_err-used.ensures refl))
+    unsound-refused c.args.t.now c.in_err-used.ensures refl (p.1 ∙ ap Err p.2)
+    (call-unsound c.args.t.now c.args.message.now c.args.code.now c.args.mask.now (search rules))
 
 pub returns : goal.returns
 returns c =
+    let mask : c.in-Some.mask.now ≡ c.args.mask.now = search rules in
+    let all =
     call-message c.args.t.now c.args.message.now c.args.code.now c.args.mask.now (search rules)
-    (is-sound c.args.t.now c.in_ok-used.ensures refl) (search rules) (search rules) c.of_message.ensures
+    (is-sound c.args.t.now c.in_ok-used.ensures refl) (search rules) (search rules) (rw mask at c.of_message.ensures.gives) in
+    search rules

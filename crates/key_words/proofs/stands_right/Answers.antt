@@ -7,10 +7,10 @@ use Rattle.key_words.proofs.stands_right.Goals as goal
 
 pub returns-then-is_zero : goal.returns-then-is_zero
 returns-then-is_zero c =
-    let below = c.is_zero.ensures ∙ leading-zero (a_word c.requires.0 (λ i. (c.type_inv.word i).fits)) c.args.leading c.requires.1 in
+    let below = c.is_zero.ensures ∙ leading-zero (a_word c.told-word c.fits-word) c.args.leading c.requires in
     rw (← below, c.if-is_zero.true, and-true) (ap not c.is_zero-then-is_zero.ensures ∙ not-zero _)
 
 pub returns-else-is_zero : goal.returns-else-is_zero
 returns-else-is_zero c =
-    let below = c.is_zero.ensures ∙ leading-zero (a_word c.requires.0 (λ i. (c.type_inv.word i).fits)) c.args.leading c.requires.1 in
+    let below = c.is_zero.ensures ∙ leading-zero (a_word c.told-word c.fits-word) c.args.leading c.requires in
     rw (← below, c.if-is_zero.false, and-false)

@@ -7,6 +7,6 @@ use Rattle.limbs.proofs.limb.Goals as goal
 pub returns : goal.returns
 returns c =
     record {
-      is = c.from_be_bytes.ensures ∙ four-bytes _ c.array_at.ensures.len ∙ ap num c.array_at.ensures.value;
+      is = c.from.ensures ∙ c.from_be_bytes.ensures ∙ four-bytes _ c.array_at.ensures.len ∙ ap num c.array_at.ensures.value;
       fits = omega arith;
     }

@@ -8,7 +8,7 @@ pub returns-then-is_slot-2 : goal.returns-then-is_slot-2
 returns-then-is_slot-2 c =
     elim c.if-is_slot.branch [
       | then-is_slot w ↦
-          entry-if c.requires.occupied c.args.i c.requires.i_value c.kernel_address_slot.ensures c.is_slot.ensures
+          entry-if c.args.table c.args.i c.requires c.kernel_address_slot.ensures c.is_slot.ensures
           w.if-is_slot.true w.current_slot.ensures w.is_slot-then-is_slot.ensures (sym w.value-is ∙ c.if-is_slot-2.true)
           c.entry_slot.ensures c.is_slot-then-is_slot-2.ensures
       | else-is_slot w ↦ absurd (true≢false (sym c.if-is_slot-2.true ∙ w.value-is ∙ w.if-is_slot.false))
@@ -19,8 +19,8 @@ returns-else-is_slot-2 c =
     c.if-is_slot-2.false
     ∙ elim c.if-is_slot.branch [
       | then-is_slot w ↦
-          no-current c.requires.occupied c.args.i c.requires.i_value c.kernel_address_slot.ensures c.is_slot.ensures
+          no-current c.args.table c.args.i c.requires c.kernel_address_slot.ensures c.is_slot.ensures
           w.if-is_slot.true w.current_slot.ensures w.is_slot-then-is_slot.ensures (sym w.value-is ∙ c.if-is_slot-2.false)
       | else-is_slot w ↦
-          no_address c.requires.occupied c.args.i c.requires.i_value c.kernel_address_slot.ensures c.is_slot.ensures w.if-is_slot.false
+          no_address c.args.table c.args.i c.requires c.kernel_address_slot.ensures c.is_slot.ensures w.if-is_slot.false
     ]

@@ -5,7 +5,7 @@ use Rattle.lists.proofs.ListRows.{within}
 use Rattle.lists.proofs.is_slot.Goals as goal
 
 pub overflow_mul-i : goal.overflow_mul-i
-overflow_mul-i c = omega (arith, few c.requires.occupied, c.requires.i_lt_used.0)
+overflow_mul-i c = omega (arith, few c.args.table, c.requires)
 
 pub word_at-requires : goal.word_at-requires
-word_at-requires c = omega (arith, within c.requires.occupied, c.requires.i_lt_used.0)
+word_at-requires c = omega (arith, within c.args.table, c.requires)

@@ -5,16 +5,16 @@ use Rattle.lists.proofs.ListRows.{within, follow-starts, follow-turns, follow-st
 use Rattle.lists.proofs.places_follow.Goals as goal
 
 pub overflow_mul-list : goal.overflow_mul-list
-overflow_mul-list c = omega (arith, few c.requires.occupied)
+overflow_mul-list c = omega (arith, few c.args.table)
 
 pub word_at-start-requires : goal.word_at-start-requires
-word_at-start-requires c = omega (arith, within c.requires.occupied)
+word_at-start-requires c = omega (arith, within c.args.table)
 
 pub loop-i-init : goal.loop-i-init
-loop-i-init c = follow-starts c.requires.occupied c.requires.list_bound.0
+loop-i-init c = follow-starts c.args.table c.requires.0
 
 pub word_at-requires : goal.word_at-requires
-word_at-requires c = omega (arith, within c.requires.occupied)
+word_at-requires c = omega (arith, within c.args.table)
 
 pub loop-i-preserved : goal.loop-i-preserved
 loop-i-preserved c =

@@ -1,5 +1,5 @@
 -- The part's end less its start is 32, so the part is the word.
-use Rattle.std.proofs.Common.{ℕ, ◌≡◌, ◌+◌, ◌-◌, ◌≤◌, length, take, drop, arith, length-take, length-drop}
+use Rattle.std.proofs.Common.{ℕ, ◌≡◌, ◌+◌, ◌-◌, ◌≤◌, length, take, drop, arith, length-take, length-drop, rules}
 use Rattle.rules.specs.Words.{Bytes, word_at}
 use Rattle.moves.specs.Moves.{WordPart}
 use Rattle.moves.proofs.word_at.Goals as goal
@@ -15,4 +15,6 @@ word-part bs at h =
     }
 
 pub returns : goal.returns
-returns c = word-part _ _ c.requires
+returns c =
+    let part : c.unwrap.result.now ≡ take (c.args.at + 32 - c.args.at) (drop c.args.at c.args.bytes.now) = search rules in
+    rw part (word-part _ _ c.requires)

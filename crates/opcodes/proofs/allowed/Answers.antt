@@ -1,7 +1,6 @@
 -- A shift divides by a power of two and a mask takes a remainder, which is how `allowed` says it.
 use Prim.Native.Nat.{ℕ, ◌%◌}
-use native.Mathlib.Omega.{arith}
-use mathlib.Core.Path.{◌≡◌}
+use mathlib.Core.Path.{◌≡◌, refl}
 use lib.Bits.{bit_and, and_mask}
 use Rattle.rules.specs.Validation.{allowed}
 use Rattle.opcodes.proofs.allowed.Goals as goal
@@ -12,9 +11,6 @@ low-three n = and_mask n 3
 lowest : (n : ℕ) → bit_and n 1 ≡ n % 2
 lowest n = and_mask n 1
 
-pub overflow_shr-result : goal.overflow_shr-result
-overflow_shr-result c = rw low-three (omega arith)
-
 pub returns : goal.returns
 unfolding allowed
-returns c = rw (low-three, lowest)
+returns c = rw (c.from-at.ensures, low-three, lowest) refl

@@ -5,5 +5,5 @@ use Rattle.prefixes.proofs.covers_key.Goals as goal
 
 pub returns : goal.returns
 returns c =
-    key-covered (record { size = search rules; values = λ i. (c.type_inv.capability i).fits }) _
+    key-covered (record { size = search rules; values = c.fits-capability }) _
     c.prefix_of.ensures c.key_part.ensures c.same_first_bits.ensures

@@ -7,8 +7,8 @@ use Rattle.prefixes.proofs.within_prefix.Goals as goal
 pub returns-then-a_prefix-b_prefix : goal.returns-then-a_prefix-b_prefix
 returns-then-a_prefix-b_prefix c =
     longer-within
-    (record { size = c.requires.b_len.1; values = λ i. (c.type_inv.a i).fits })
-    (record { size = c.requires.b_len.0; values = λ i. (c.type_inv.b i).fits })
+    (record { size = c.told-a; values = c.fits-a })
+    (record { size = c.told-b; values = c.fits-b })
     c.prefix_of-a_prefix.ensures c.prefix_of-b_prefix.ensures
     c.if-a_prefix-b_prefix.true c.key_part-then-a_prefix-b_prefix.ensures c.key_part.ensures
     c.same_first_bits.ensures
@@ -17,6 +17,6 @@ pub returns-else-a_prefix-b_prefix : goal.returns-else-a_prefix-b_prefix
 returns-else-a_prefix-b_prefix c =
     lt-leb _ _ c.if-a_prefix-b_prefix.false
     ∙ shorter-not-within
-    (record { size = c.requires.b_len.1; values = λ i. (c.type_inv.a i).fits })
-    (record { size = c.requires.b_len.0; values = λ i. (c.type_inv.b i).fits })
+    (record { size = c.told-a; values = c.fits-a })
+    (record { size = c.told-b; values = c.fits-b })
     c.prefix_of-a_prefix.ensures c.prefix_of-b_prefix.ensures c.if-a_prefix-b_prefix.false

@@ -1,14 +1,17 @@
--- The space and the digits of each byte follow each other.
-use Rattle.std.proofs.Common.{rules}
-use Rattle.printing.proofs.Lines.{wrote-code-one, wrote-code-two}
+-- The space and the digits of each byte follow each other; the bytes are the last of two.
+use Rattle.std.proofs.Common.{◌≡◌, ◌∙◌, arith, rules}
+use Rattle.printing.proofs.Lines.{two_digits, code-some, digits-from, wrote-code}
 use Rattle.printing.proofs.put_code.Goals as goal
 
-pub returns-then-code-lt256 : goal.returns-then-code-lt256
-returns-then-code-lt256 c =
-    let p = wrote-code-one c.put-first.ensures c.args.code c.if-code-lt256.true c.put_byte.ensures in
-    record { wrote = p.0; upper_bound = p.1 }
+pub overflow_sub-unused : goal.overflow_sub-unused
+overflow_sub-unused c =
+    let short = code-some c.args.refusal.0 in
+    omega (arith, c.from-unused.ensures, c.code_len.ensures, short.1)
 
-pub returns-else-code-lt256 : goal.returns-else-code-lt256
-returns-else-code-lt256 c =
-    let p = wrote-code-two c.put-first.ensures c.args.code (search rules) (search rules) (rw c.to_be_bytes.ensures at c.put_hex.ensures) in
+pub returns : goal.returns
+returns c =
+    let n = c.args.refusal.0 in
+    let two : c.to_be_bytes-code.result ≡ two_digits n = search rules in
+    let last = digits-from n two c.from-unused.ensures in
+    let p = wrote-code c.put.ensures n (search rules) c.code_len.ensures last c.put_hex.ensures in
     record { wrote = p.0; upper_bound = p.1 }

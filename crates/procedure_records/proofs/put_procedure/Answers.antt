@@ -3,9 +3,7 @@ use Rattle.procedure_records.proofs.Own.{kinds-needs, procedure-put}
 use Rattle.procedure_records.proofs.put_procedure.Goals as goal
 
 pub put_kinds-requires : goal.put_kinds-requires
-put_kinds-requires c =
-    kinds-needs c.requires c.put_own-named.ensures
+put_kinds-requires c = kinds-needs c.requires c.put_own.ensures
 
 pub returns : goal.returns
-returns c =
-    procedure-put c.requires c.put_own-named.ensures c.put_kinds.ensures
+returns c = procedure-put c.requires c.put_own.ensures c.put_kinds.ensures

@@ -8,12 +8,12 @@ use Rattle.records.proofs.keys_through.Goals as goal
 
 pub overflow_add-result : goal.overflow_add-result
 overflow_add-result c =
-    omega (arith, found-inside c.args.t.now (num c.args.key.now) (search rules) c.in-Ok.ensures)
+    omega (arith, found-inside c.args.table.bytes.now (num c.args.key.now) (search rules) c.in-Ok.ensures)
 
 pub returns-in-Ok : goal.returns-in-Ok
 returns-in-Ok c =
-    through-present (formed c.args.t.now (search rules)).ascends (found c.args.t.now (num c.args.key.now) (search rules) c.in-Ok.ensures refl)
+    through-present (formed c.args.table.bytes.now (search rules)).ascends (found c.args.table.bytes.now (num c.args.key.now) (search rules) c.in-Ok.ensures refl)
 
 pub returns-in-Err : goal.returns-in-Err
 returns-in-Err c =
-    through-absent (missed c.args.t.now (num c.args.key.now) (search rules) c.in-Err.ensures refl)
+    through-absent (missed c.args.table.bytes.now (num c.args.key.now) (search rules) c.in-Err.ensures refl)

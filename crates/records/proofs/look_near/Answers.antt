@@ -8,25 +8,25 @@ use Rattle.records.proofs.look_near.Goals as goal
 
 pub overflow_mul-value_at : goal.overflow_mul-value_at
 overflow_mul-value_at c =
-    omega (arith, found-inside c.args.t.now (num c.args.key.now) (search rules) c.in-Ok.ensures)
+    omega (arith, found-inside c.args.table.bytes.now (num c.args.key.now) (search rules) c.in-Ok.ensures)
 
 pub overflow_add-value_at : goal.overflow_add-value_at
 overflow_add-value_at c =
-    omega (arith, found-inside c.args.t.now (num c.args.key.now) (search rules) c.in-Ok.ensures)
+    omega (arith, found-inside c.args.table.bytes.now (num c.args.key.now) (search rules) c.in-Ok.ensures)
 
 pub word_at-requires : goal.word_at-requires
 word_at-requires c =
-    omega (arith, found-inside c.args.t.now (num c.args.key.now) (search rules) c.in-Ok.ensures)
+    omega (arith, found-inside c.args.table.bytes.now (num c.args.key.now) (search rules) c.in-Ok.ensures)
 
 pub returns-in-Ok : goal.returns-in-Ok
 returns-in-Ok c = (
-  c.copy_word.ensures ∙ c.word_at.ensures.is ∙ look-present c.args.t.now _ _ (search rules) (found c.args.t.now (num c.args.key.now) (search rules) c.in-Ok.ensures refl),
-  through-present (formed c.args.t.now (search rules)).ascends (found c.args.t.now (num c.args.key.now) (search rules) c.in-Ok.ensures refl),
+  c.copy_from_slice.ensures.after ∙ c.word_at.ensures.is ∙ look-present c.args.table.bytes.now _ _ (search rules) (found c.args.table.bytes.now (num c.args.key.now) (search rules) c.in-Ok.ensures refl),
+  through-present (formed c.args.table.bytes.now (search rules)).ascends (found c.args.table.bytes.now (num c.args.key.now) (search rules) c.in-Ok.ensures refl),
 )
 
 pub returns-in-Err : goal.returns-in-Err
 returns-in-Err c =
     let size : length c.args.to.now ≡ 32 = search rules in (
-      c.clear.ensures ∙ ap (λ (n : ℕ). replicate {A = ℕ} n 0) size ∙ look-absent (missed c.args.t.now (num c.args.key.now) (search rules) c.in-Err.ensures refl),
-      through-absent (missed c.args.t.now (num c.args.key.now) (search rules) c.in-Err.ensures refl),
+      (c.fill.ensures.after (λ y e. e)) ∙ ap (λ (n : ℕ). replicate {A = ℕ} n 0) size ∙ look-absent (missed c.args.table.bytes.now (num c.args.key.now) (search rules) c.in-Err.ensures refl),
+      through-absent (missed c.args.table.bytes.now (num c.args.key.now) (search rules) c.in-Err.ensures refl),
     )

@@ -8,49 +8,49 @@ use Rattle.registering.proofs.register.Goals as goal
 pub returns-then-is_zero : goal.returns-then-is_zero
 unfolding code_number
 returns-then-is_zero c =
-    register-zero-key c.args.t.now c.args.d.now c.args.code.now c.args.mask.now c.key_word-key.ensures
+    register-zero-key c.args.table.now c.args.d.now c.args.code.now c.args.mask.now c.key_word-key.ensures
     c.is_zero.ensures c.if-is_zero.true
 
 pub returns-then-is_zero-2 : goal.returns-then-is_zero-2
 unfolding code_number
 returns-then-is_zero-2 c =
-    register-zero-address c.args.t.now c.args.d.now c.args.code.now c.args.mask.now c.key_word-key.ensures
+    register-zero-address c.args.table.now c.args.d.now c.args.code.now c.args.mask.now c.key_word-key.ensures
     c.is_zero.ensures c.if-is_zero.false c.address_word.ensures c.is_zero-2.ensures c.if-is_zero-2.true
 
 pub permits-requires : goal.permits-requires
 unfolding number
 permits-requires c =
-    record { sound_with = c.requires.sound_with; acts_on = acts-on-procedure c.requires.names_procedure c.key_word-key.ensures }
+    record { sound_table = rw c.records.ensures.bytes c.requires.sound_table; acts_on = acts-on-procedure c.requires.names_procedure c.key_word-key.ensures }
 
 pub returns-then-not-permits : goal.returns-then-not-permits
 unfolding code_number number
 returns-then-not-permits c =
-    register-not-covered c.args.t.now c.args.d.now c.args.code.now c.args.mask.now c.key_word-key.ensures
+    register-not-covered c.args.table.now c.args.d.now c.args.code.now c.args.mask.now c.key_word-key.ensures
     c.is_zero.ensures c.if-is_zero.false c.address_word.ensures c.is_zero-2.ensures c.if-is_zero-2.false
-    c.permits.ensures c.if-not-permits.true
+    (rw c.records.ensures.bytes at c.permits.ensures) c.if-not-permits.true
 
 pub returns-then-not-passes : goal.returns-then-not-passes
 unfolding code_number number
 returns-then-not-passes c =
-    register-code-fails c.args.t.now c.args.d.now c.args.code.now c.args.mask.now c.key_word-key.ensures
+    register-code-fails c.args.table.now c.args.d.now c.args.code.now c.args.mask.now c.key_word-key.ensures
     c.is_zero.ensures c.if-is_zero.false c.address_word.ensures c.is_zero-2.ensures c.if-is_zero-2.false
-    c.permits.ensures c.if-not-permits.false c.passes.ensures c.if-not-passes.true
+    (rw c.records.ensures.bytes at c.permits.ensures) c.if-not-permits.false c.passes.ensures c.if-not-passes.true
 
 pub returns-then-not-well_formed : goal.returns-then-not-well_formed
 unfolding code_number number
 returns-then-not-well_formed c =
-    register-malformed c.args.t.now c.args.d.now c.args.code.now c.args.mask.now c.key_word-key.ensures
+    register-malformed c.args.table.now c.args.d.now c.args.code.now c.args.mask.now c.key_word-key.ensures
     c.is_zero.ensures c.if-is_zero.false c.address_word.ensures c.is_zero-2.ensures c.if-is_zero-2.false
-    c.permits.ensures c.if-not-permits.false c.passes.ensures c.if-not-passes.false
+    (rw c.records.ensures.bytes at c.permits.ensures) c.if-not-permits.false c.passes.ensures c.if-not-passes.false
     c.well_formed-2.ensures c.if-not-well_formed.true
 
 pub judge_series-requires : goal.judge_series-requires
 unfolding number
 judge_series-requires c = record {
-  sound_with = c.requires.sound_with;
-  judgeable = judgeable c.args.t.now c.args.d.now c.args.code.now c.args.mask.now c.key_word-key.ensures
+  sound_table = c.requires.sound_table;
+  judgeable = judgeable c.args.table.now c.args.d.now c.args.code.now c.args.mask.now c.key_word-key.ensures
       c.is_zero.ensures c.if-is_zero.false c.address_word.ensures c.is_zero-2.ensures c.if-is_zero-2.false
-      c.permits.ensures c.if-not-permits.false c.passes.ensures c.if-not-passes.false
+      (rw c.records.ensures.bytes at c.permits.ensures) c.if-not-permits.false c.passes.ensures c.if-not-passes.false
       c.well_formed-2.ensures
       c.requires.names_procedure c.if-not-well_formed.false;
 }
@@ -58,7 +58,7 @@ judge_series-requires c = record {
 pub returns : goal.returns
 unfolding number
 returns c =
-    register-requests c.args.t.now c.args.d.now c.args.code.now c.args.mask.now c.key_word-key.ensures
+    register-requests c.args.table.now c.args.d.now c.args.code.now c.args.mask.now c.key_word-key.ensures
     c.is_zero.ensures c.if-is_zero.false c.address_word.ensures c.is_zero-2.ensures c.if-is_zero-2.false
-    c.permits.ensures c.if-not-permits.false c.passes.ensures c.if-not-passes.false
+    (rw c.records.ensures.bytes at c.permits.ensures) c.if-not-permits.false c.passes.ensures c.if-not-passes.false
     c.well_formed-2.ensures c.if-not-well_formed.false c.judge_series.ensures

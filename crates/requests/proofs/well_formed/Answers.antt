@@ -1,32 +1,34 @@
--- The loop's invariant is `Walked`: the requests passed are good. A request of no bytes is malformed, and so is the series.
-use native.Mathlib.Omega.{arith}
-use Rattle.requests.proofs.Walked.{walked_none, request-bytes, walked_more, walked_stop, walked_all, empty-series, stray-end}
+-- The loop's invariant is `Walked`: the requests passed are good. With one that is malformed, so is the series.
+use Rattle.std.proofs.Common.{rules, length, ◌≤◌}
+use Rattle.laws.proofs.WordParts.{rest_part, rest-or-none}
+use Rattle.requests.proofs.Walked.{walked_none, walked_more, walked_stop, walked_all, stray-end}
 use Rattle.requests.proofs.well_formed.Goals as goal
 
-pub returns-then-d-lt-SERIES_AT : goal.returns-then-d-lt-SERIES_AT
-returns-then-d-lt-SERIES_AT c = empty-series c.args.d.now (omega arith)
+pub returns-then-rest-ne0 : goal.returns-then-rest-ne0
+returns-then-rest-ne0 c =
+    stray-end c.args.d.now _ (rest-or-none _ _ _ _ c.get.ensures.lookup c.unwrap_or_default-rest.ensures) c.if-rest-ne0.true
 
-pub returns-then-d-ne0 : goal.returns-then-d-ne0
-returns-then-d-ne0 c = stray-end c.args.d.now c.if-d-ne0.true
-
-pub loop-at-init : goal.loop-at-init
-loop-at-init c = walked_none c.args.d.now (omega arith) c.if-d-ne0.false
+pub loop-rest-init : goal.loop-rest-init
+loop-rest-init c =
+    walked_none c.args.d.now _ (rest-or-none _ _ _ _ c.get.ensures.lookup c.unwrap_or_default-rest.ensures) c.if-rest-ne0.false
 
 pub returns-in_default : goal.returns-in_default
-returns-in_default c = walked_stop c.loop-at.invariant (omega arith) c.in_default.ensures
+returns-in_default c = walked_stop c.loop-rest.invariant (search rules) c.in_default.ensures
 
-pub overflow_add-at : goal.overflow_add-at
-overflow_add-at c =
-    let next = walked_more c.loop-at.invariant (omega arith) c.in-Some.ensures in
-    omega (arith, next.within)
+pub slice_bounds-rest-count : goal.slice_bounds-rest-count
+slice_bounds-rest-count c = (walked_more c.loop-rest.invariant c.in-Some.ensures).within
 
-pub loop-at-smaller : goal.loop-at-smaller
-loop-at-smaller c =
-    let more = request-bytes _ c.in-Some.bytes c.in-Some.ensures in
-    omega (arith, more)
+pub slice_bounds-rest-start : goal.slice_bounds-rest-start
+slice_bounds-rest-start c =
+    let passed = walked_more c.loop-rest.invariant c.in-Some.ensures in
+    let within : c.in-Some.bytes ≤ length c.loop-rest.rest.now = passed.within in
+    search rules
 
-pub loop-at-preserved : goal.loop-at-preserved
-loop-at-preserved c = walked_more c.loop-at.invariant (omega arith) c.in-Some.ensures
+pub loop-rest-smaller : goal.loop-rest-smaller
+loop-rest-smaller c = rw rest_part (walked_more c.loop-rest.invariant c.in-Some.ensures).shorter
+
+pub loop-rest-preserved : goal.loop-rest-preserved
+loop-rest-preserved c = rw rest_part (walked_more c.loop-rest.invariant c.in-Some.ensures).more
 
 pub returns : goal.returns
-returns c = walked_all c.loop-at.invariant (omega arith)
+returns c = walked_all c.loop-rest.invariant (search rules)

@@ -16,8 +16,8 @@ word_at-requires c = let need = c.requires in has-second need.kind need.names (s
 pub word_at-base-requires : goal.word_at-base-requires
 word_at-base-requires c = let need = c.requires in has_first need.kind need.names (search rules) need.size
 
-pub covers_key-requires-clause-capability_bound : goal.covers_key-requires-clause-capability_bound
-covers_key-requires-clause-capability_bound c =
+pub covers_key-requires : goal.covers_key-requires
+covers_key-requires c =
     let need = c.requires in
     prefix-fits (prefixed need.kind need.names (search rules) (search rules)) c.word_at-base.ensures need.in_range
 
@@ -29,5 +29,5 @@ pub returns-in_default : goal.returns-in_default
 returns-in_default c = λ k p.
     let need = c.requires in
     let key = need.key (not-write need.kind need.names (search rules)) in
-    let named = key-number c.key_part.ensures need.word (λ i. (c.type_inv.x i).fits) key in
+    let named = key-number c.key_part.ensures c.told-x c.fits-x key in
     prefix-covers k p (search rules) (search rules) c.word_at-base.ensures named c.covers_key.ensures

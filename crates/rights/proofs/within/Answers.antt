@@ -24,8 +24,8 @@ word_at-b_word-requires c = let need = c.requires in has_first need.kind need.na
 pub word_at-a_word-requires : goal.word_at-a_word-requires
 word_at-a_word-requires c = let need = c.requires in has_first need.kind need.names (search rules) need.size_a
 
-pub within_prefix-requires-clause-a_bound : goal.within_prefix-requires-clause-a_bound
-within_prefix-requires-clause-a_bound c =
+pub within_prefix-requires : goal.within_prefix-requires
+within_prefix-requires c =
     let need = c.requires in
     prefix-fits (prefixed need.kind need.names (search rules) (search rules)) c.word_at-a_word.ensures need.in_range
 

@@ -11,18 +11,18 @@ pub returns-then-i-lt1 : goal.returns-then-i-lt1
 returns-then-i-lt1 c =
     no-capability _ _ _ _ _ c.end_first.ensures c.if-before-end_first.false c.end_second-i.ensures (search rules)
 
-pub returns-then-count-i : goal.returns-then-count-i
-returns-then-count-i c =
+pub returns-then-count-from : goal.returns-then-count-from
+returns-then-count-from c =
     past-count _ _ _ _ _ c.end_first.ensures c.if-before-end_first.false c.end_second-i.ensures (search rules) (search rules)
 
-pub returns-then-end_third-words : goal.returns-then-end_third-words
-returns-then-end_third-words c =
+pub returns-then-from-words : goal.returns-then-from-words
+returns-then-from-words c =
     word-if _ _ _ _ _ c.end_first.ensures c.if-before-end_first.false c.end_second-i.ensures (search rules) (search rules)
-    c.end_third.ensures c.words.ensures.count (search rules) c.args.value.now c.requires.1 refl
+    c.end_third.ensures c.words.ensures.count (search rules) c.args.value.now c.told-value refl
     c.prefix_in_range.ensures
 
-pub returns-else-end_third-words : goal.returns-else-end_third-words
-returns-else-end_third-words c = λ kind q.
-    le-ltb _ _ c.if-end_third-words.false
+pub returns-else-from-words : goal.returns-else-from-words
+returns-else-from-words c = λ kind q.
+    le-ltb _ _ (search rules)
     ∙ no_word _ _ _ _ _ c.end_first.ensures c.if-before-end_first.false c.end_second-i.ensures (search rules) (search rules)
-    c.end_third.ensures c.words.ensures.count c.if-end_third-words.false kind q
+    c.end_third.ensures c.words.ensures.count (search rules) kind q

@@ -5,5 +5,5 @@ use Rattle.soundness.proofs.holds_listed.Goals as goal
 
 pub returns-then-is_key : goal.returns-then-is_key
 returns-then-is_key c =
-    key-listed c.value_at-key.ensures c.is_key.ensures (store c.args.t.now) c.if-is_key.true
+    key-listed c.value_at-key.ensures c.is_key.ensures (store c.args.table.bytes.now) c.if-is_key.true
     c.key_part.ensures c.listed.ensures

@@ -1,12 +1,13 @@
 -- The record form first, then the records.
 use Rattle.std.proofs.Common.{refl}
 use Rattle.rules.specs.Answers.{code_number}
-use Rattle.soundness.proofs.Whole.{used-occupied, form-bad, store-unsound, store-sound}
+use Rattle.table.proofs.Forms.{used-form, used-count}
+use Rattle.soundness.proofs.Whole.{form-bad, store-unsound, store-sound}
 use Rattle.soundness.proofs.sound.Goals as goal
 
-pub store_sound-requires : goal.store_sound-requires
-store_sound-requires c =
-    used-occupied c.args.t.now c.in-Some.ensures refl
+pub invariant_of-store_sound : goal.invariant_of-store_sound
+invariant_of-store_sound c =
+    record { form = used-form c.args.t.now c.in-Some.ensures refl; count = used-count c.args.t.now c.in-Some.ensures refl }
 
 pub returns-then-store_sound : goal.returns-then-store_sound
 returns-then-store_sound c =

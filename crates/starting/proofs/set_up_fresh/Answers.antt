@@ -1,57 +1,51 @@
 -- Each return is a place in the row.
 -- The returns in order: 66 e4 (three); 66 e7; done.
+use Rattle.std.proofs.Common.{rules}
+use Rattle.rules.specs.Words.{key_bytes, address_bytes}
 use Rattle.rules.specs.Answers.{code_number}
 use Rattle.laws.proofs.Numerals.{all-bytes}
-use Rattle.starting.proofs.StartRow.{key-zero, address-zero, kernel-zero, set-up-no-room, set-up-lent, set-up-done}
-use borrow.Author.Rules.{rules}
+use Rattle.laws.proofs.Words.{num-fits}
+use Rattle.starting.proofs.StartRow.{Lent, key-zero, address-zero, kernel-zero, set-up-no-room, set-up-lent, set-up-done}
 use Rattle.starting.proofs.set_up_fresh.Goals as goal
+use Rattle.starting.proofs.set_up_fresh.Goals.{After-is_zero}
+
+lent : (c : After-is_zero) → Lent c.args.t.now c.args.key.now c.args.address.now c.args.kernel_address.now
+lent c =
+    record {
+      fits = c.requires;
+      key = num-fits key_bytes _ (all-bytes c.args.key.now c.fits-key) c.told-key;
+      address = num-fits address_bytes _ (all-bytes c.args.address.now c.fits-address) c.told-address;
+      kernel_address = num-fits address_bytes _ (all-bytes c.args.kernel_address.now c.fits-kernel_address) c.told-kernel_address;
+    }
 
 pub returns-then-is_zero : goal.returns-then-is_zero
 unfolding code_number
-returns-then-is_zero c =
-    let kb = all-bytes c.args.key.now (λ i. (c.shared_slice_known-1.given i).fits) in
-    let ab = all-bytes c.args.address.now (λ i. (c.shared_slice_known-2-1.given i).fits) in
-    let kab = all-bytes c.args.kernel_address.now (λ i. (c.shared_slice_known-3-1.given i).fits) in
-    key-zero c.requires kb ab kab c.is_zero.ensures c.if-is_zero.true
+returns-then-is_zero c = key-zero (lent (goal.at.returns-then-is_zero c).After-is_zero) c.is_zero.ensures c.if-is_zero.true
 
 pub returns-then-is_zero-2 : goal.returns-then-is_zero-2
 unfolding code_number
 returns-then-is_zero-2 c =
-    let kb = all-bytes c.args.key.now (λ i. (c.shared_slice_known-1.given i).fits) in
-    let ab = all-bytes c.args.address.now (λ i. (c.shared_slice_known-2-1.given i).fits) in
-    let kab = all-bytes c.args.kernel_address.now (λ i. (c.shared_slice_known-3-1.given i).fits) in
-    address-zero c.requires kb ab kab c.is_zero.ensures c.if-is_zero.false c.is_zero-2.ensures c.if-is_zero-2.true
+    address-zero (lent (goal.at.returns-then-is_zero-2 c).After-is_zero) c.is_zero.ensures c.if-is_zero.false
+    c.is_zero-2.ensures c.if-is_zero-2.true
 
 pub returns-then-is_zero-3 : goal.returns-then-is_zero-3
 unfolding code_number
 returns-then-is_zero-3 c =
-    let kb = all-bytes c.args.key.now (λ i. (c.shared_slice_known-1.given i).fits) in
-    let ab = all-bytes c.args.address.now (λ i. (c.shared_slice_known-2-1.given i).fits) in
-    let kab = all-bytes c.args.kernel_address.now (λ i. (c.shared_slice_known-3-1.given i).fits) in
-    kernel-zero c.requires kb ab kab c.is_zero.ensures c.if-is_zero.false c.is_zero-2.ensures c.if-is_zero-2.false
-    c.is_zero-3.ensures c.if-is_zero-3.true
+    kernel-zero (lent (goal.at.returns-then-is_zero-3 c).After-is_zero) c.is_zero.ensures c.if-is_zero.false
+    c.is_zero-2.ensures c.if-is_zero-2.false c.is_zero-3.ensures c.if-is_zero-3.true
 
 pub returns-then-t-lt-FIRST_ROOM : goal.returns-then-t-lt-FIRST_ROOM
 unfolding code_number
 returns-then-t-lt-FIRST_ROOM c =
-    let kb = all-bytes c.args.key.now (λ i. (c.shared_slice_known-1.given i).fits) in
-    let ab = all-bytes c.args.address.now (λ i. (c.shared_slice_known-2-1.given i).fits) in
-    let kab = all-bytes c.args.kernel_address.now (λ i. (c.shared_slice_known-3-1.given i).fits) in
-    set-up-no-room c.requires kb ab kab c.is_zero.ensures c.if-is_zero.false c.is_zero-2.ensures c.if-is_zero-2.false
-    c.is_zero-3.ensures c.if-is_zero-3.false (search rules)
+    set-up-no-room (lent (goal.at.returns-then-t-lt-FIRST_ROOM c).After-is_zero) c.is_zero.ensures c.if-is_zero.false
+    c.is_zero-2.ensures c.if-is_zero-2.false c.is_zero-3.ensures c.if-is_zero-3.false (search rules)
 
 pub found-requires : goal.found-requires
 found-requires c =
-    let kb = all-bytes c.args.key.now (λ i. (c.shared_slice_known-1.given i).fits) in
-    let ab = all-bytes c.args.address.now (λ i. (c.shared_slice_known-2-1.given i).fits) in
-    let kab = all-bytes c.args.kernel_address.now (λ i. (c.shared_slice_known-3-1.given i).fits) in
-    set-up-lent c.requires kb ab kab c.is_zero.ensures c.if-is_zero.false c.is_zero-2.ensures c.if-is_zero-2.false
-    c.is_zero-3.ensures c.if-is_zero-3.false (search rules)
+    set-up-lent (lent (goal.at.found-requires c).After-is_zero) c.is_zero.ensures c.if-is_zero.false
+    c.is_zero-2.ensures c.if-is_zero-2.false c.is_zero-3.ensures c.if-is_zero-3.false (search rules)
 
 pub returns : goal.returns
 returns c =
-    let kb = all-bytes c.args.key.now (λ i. (c.shared_slice_known-1.given i).fits) in
-    let ab = all-bytes c.args.address.now (λ i. (c.shared_slice_known-2-1.given i).fits) in
-    let kab = all-bytes c.args.kernel_address.now (λ i. (c.shared_slice_known-3-1.given i).fits) in
-    set-up-done c.requires kb ab kab c.is_zero.ensures c.if-is_zero.false c.is_zero-2.ensures c.if-is_zero-2.false
-    c.is_zero-3.ensures c.if-is_zero-3.false (search rules) c.found.ensures
+    set-up-done (lent (goal.at.returns c).After-is_zero) c.is_zero.ensures c.if-is_zero.false
+    c.is_zero-2.ensures c.if-is_zero-2.false c.is_zero-3.ensures c.if-is_zero-3.false (search rules) c.found.ensures

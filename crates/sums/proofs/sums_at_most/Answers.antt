@@ -7,10 +7,10 @@ use Rattle.sums.proofs.sums_at_most.Goals as goal
 pub loop-i-init : goal.loop-i-init
 loop-i-init c =
     sums-all
-    (a_word (search rules) (λ k. (c.type_inv.p k).fits))
-    (a_word (search rules) (λ k. (c.type_inv.q k).fits))
-    (a_word (search rules) (λ k. (c.type_inv.a k).fits))
-    (a_word (search rules) (λ k. (c.type_inv.n k).fits))
+    (a_word (search rules) (λ k. search rules))
+    (a_word (search rules) (λ k. search rules))
+    (a_word (search rules) (λ k. search rules))
+    (a_word (search rules) (λ k. search rules))
 
 pub loop-i-preserved : goal.loop-i-preserved
 loop-i-preserved c =

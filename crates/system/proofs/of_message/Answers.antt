@@ -30,9 +30,9 @@ returns-then-leading c =
 pub of_kind-requires : goal.of_kind-requires
 of_kind-requires c =
     let type = names-type _ c.in-Of.ensures refl in record {
-      sound_with = c.requires.sound_with;
-      acceptable = acceptable _ _ type c.short.ensures c.if-short.false c.leading-leading.ensures c.if-leading.false
-          (rw c.data_of-d.ensures (data-short _ c.requires.message_len_bound.0)) c.requires.message_len_bound.1;
+      sound_table = c.requires.sound_table;
+      acceptable = acceptable _ type c.short.ensures c.if-short.false c.leading-leading.ensures c.if-leading.false
+          (rw c.data_of-d.ensures (data-short _ c.requires.message_len_bound));
     }
 
 pub returns-in-Unknown : goal.returns-in-Unknown

@@ -6,10 +6,10 @@ use Rattle.words.proofs.small.Goals as goal
 
 pub returns-then-is_zero : goal.returns-then-is_zero
 returns-then-is_zero c =
-    let w = a_word c.requires (λ k. search rules) in
+    let w = a_word (search rules) (λ k. search rules) in
     is-small w (sym c.is_zero.ensures ∙ c.if-is_zero.true) c.limb.ensures
 
 pub returns-else-is_zero : goal.returns-else-is_zero
 returns-else-is_zero c =
-    let w = a_word c.requires (λ k. search rules) in
+    let w = a_word (search rules) (λ k. search rules) in
     not-small w (sym c.is_zero.ensures ∙ c.if-is_zero.false)
