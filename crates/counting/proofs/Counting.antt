@@ -1,6 +1,6 @@
 -- The loops that count what is not zero: over the words of a capability, and over the requests. Each keeps that what it has
 -- counted and what is left make up the whole. Last, the types that are requested.
-use Rattle.std.proofs.Common.{ℕ, suc, ◌+◌, ◌/◌, ◌≤◌, ◌<◌, ◌≡◌, refl, sym, ap, ◌∙◌, List, [], ◌∷◌, ◌++◌, length, take, drop, Bool, true, false, not, eqb, cond, count_by, arith, length-append, take_all, drop_of_length-le}
+use Rattle.std.proofs.Common.{ℕ, suc, ◌+◌, ◌-◌, ◌/◌, ◌≤◌, ◌<◌, ◌≡◌, refl, sym, ap, ◌∙◌, List, [], ◌∷◌, ◌++◌, length, take, drop, Bool, true, false, not, eqb, cond, count_by, arith, length-append, take_all, drop_of_length-le}
 use Rattle.std.proofs.lemmas.List.{take-append-le, drop-append-le}
 use Rattle.rules.specs.Words.{Bytes, num, words}
 use Rattle.rules.specs.Capabilities.{call, register, delete, set_entry, write, kinds, word_count}
@@ -9,6 +9,7 @@ use Rattle.laws.proofs.KindFacts.{word_count-small}
 use Rattle.series.specs.Series.{left, bytes_left, FirstLeft, requested_counts}
 use Rattle.series.specs.declared.Request.{Request as Found}
 use Rattle.series.specs.declared.Series.{Series}
+use Rattle.series.proofs.Counted.{types-counts}
 use Rattle.counting.specs.Counting.{taken_if, taken_by, words_taken, requests_taken, kinds_taken, WordsTaken}
 
 -- the words of bytes, as many as are whole
@@ -103,13 +104,13 @@ one-count v = go (eqb v 0) refl
     go true q = rw (q, taken_by) (refl, omega arith)
     go false q = rw (q, taken_by) (refl, omega arith)
 
--- no count stands where no type's number is, so those of the types that are not zero are all that are not
-pub counted-kinds : (rs : List Request) {counts : List ℕ} {r : ℕ} → counts ≡ requested_counts rs
-    → r ≡ count_by (λ x. not (eqb x 0)) counts
+-- the types that are requested are the counts from Call's on that are not zero
+pub counted-kinds : (rs : List Request) {counts : List ℕ} {from r : ℕ} → counts ≡ requested_counts rs → from ≡ 3
+    → r ≡ count_by (λ x. not (eqb x 0)) (take (length counts - from) (drop from counts))
     → (r ≡ kinds_taken rs kinds) × (r ≤ 5)
 unfolding requested_counts kinds_taken
-counted-kinds rs e q =
-    let all = q ∙ ap (count_by (λ x. not (eqb x 0))) e in
+counted-kinds rs e first q =
+    let all = q ∙ ap (count_by (λ x. not (eqb x 0))) (types-counts rs e first) in
     let c = one-count (length (requested_of call rs)) in
     let g = one-count (length (requested_of register rs)) in
     let d = one-count (length (requested_of delete rs)) in

@@ -6,6 +6,8 @@ ghost use Rattle.rules.specs.Messages.{series_at, requests};
 ghost use Rattle.requests.specs.Requests.{WellFormedFrom};
 ghost use Rattle.counting.specs.Counting.{requests_taken, kinds_taken, WordsTaken, Needed};
 
+use rules::Kind;
+
 // How many of a capability's words are not zero.
 fn words_taken(capability: &[u8]) -> usize
     ensures { WordsTaken capability.now result }
@@ -31,13 +33,16 @@ fn requests_taken(d: &[u8]) -> usize
     total
 }
 
-// How many types have a capability requested.
+// How many types have a capability requested. No type's number is smaller than Call's.
 fn kinds_taken(d: &[u8]) -> usize
     requires { WellFormedFrom d.now series_at }
     ensures { (result ≡ kinds_taken (requests d.now) kinds) × (result ≤ 5) }
 {
     let counts = series::requested(d);
-    counts.iter().filter(|count| **count != 0).count()
+    counts[usize::from(Kind::CALL.0)..]
+        .iter()
+        .filter(|count| **count != 0)
+        .count()
 }
 
 // How many records the requested capabilities need, each of which has a slot of its own.

@@ -1,7 +1,6 @@
 -- What the library says of all bytes, of all blocks and of `==`, as numbers.
-use Rattle.std.proofs.Common.{ℕ, zero, suc, ◌+◌, ◌*◌, ◌-◌, ◌/◌, ◌≤◌, ◌<◌, ◌≡◌, refl, sym, ap, ◌∙◌, [], List, Bool, true, false, eqb, arith, length, take, drop, get_or, replicate, take_all, length-take, length-drop}
+use Rattle.std.proofs.Common.{ℕ, zero, suc, ◌+◌, ◌*◌, ◌-◌, ◌/◌, ◌≤◌, ◌<◌, ◌≡◌, refl, sym, ap, ◌∙◌, [], List, Bool, true, false, eqb, arith, length, take, drop, get_or, replicate, reverse, subst, take_all, length-take, length-drop}
 use mathlib.Core.Bool.{true≢false}
-use lib.ListN.{length-replicate}
 use lib.Seq.{drop-drop}
 use borrow.Author.Tests.{eqb-true, eq-eqb, ne_eqb}
 use Rattle.std.specs.Bool.{Decides, MatchBool}
@@ -9,26 +8,18 @@ use Rattle.std.specs.List.{AllWithin, HoldsAt}
 use Rattle.std.specs.Simd.{first_chunks}
 use Rattle.std.specs.Cmp.Lexicographic.{pointwise}
 use Rattle.std.proofs.lemmas.Slice.Eq.{bytes_eq-Decides}
+use Rattle.std.proofs.lemmas.List.{get_or-reverse, length-reverse}
 use Rattle.rules.specs.Words.{Bytes, AllBytes, num, num_after}
 use Rattle.laws.proofs.Tests.{same_test}
 use Rattle.laws.proofs.Numerals.{num-suc, num-injective, num-zero, num-zeros}
 use Rattle.laws.proofs.Words.{take-bytes, drop-bytes}
-use Rattle.equality.proofs.Parts.{Zeros, zeros-none, zeros-more, zeros-rest, part-not-zero, front-zero}
+use Rattle.equality.proofs.ByLimbs.{Zeros, zeros-none, zeros-more, zeros-rest, part-not-zero, front-zero}
 
 -- `==` of two byte strings of one length
 pub same-bytes : (a b : Bytes) {r : Bool} → AllBytes a → AllBytes b → length a ≡ length b → r ≡ pointwise eqb a b → r ≡ eqb (num a) (num b)
 same-bytes a b {r} va vb l e =
     let d : Decides (pointwise eqb a b) (a ≡ b) = bytes_eq-Decides a b in
     e ∙ same_test (pointwise eqb a b) (eqb (num a) (num b)) (λ t. eq-eqb (num a) (num b) (ap num (d.0 t))) (λ t. d.1 (num-injective a b l va vb (eqb-true (num a) (num b) t)))
-
-zeros-are-bytes : (n : ℕ) → AllBytes (replicate n 0)
-zeros-are-bytes zero = tt
-zeros-are-bytes (suc n) = (omega arith, zeros-are-bytes n)
-
--- and with zeros
-pub zeros-same : (a : Bytes) (n : ℕ) {r : Bool} → AllBytes a → length a ≡ n → r ≡ pointwise eqb a (replicate n 0) → r ≡ eqb (num a) 0
-zeros-same a n v l e =
-    same-bytes a (replicate n 0) v (zeros-are-bytes n) (l ∙ sym (length-replicate {A = ℕ} n 0)) e ∙ ap (eqb (num a)) (num-zeros n)
 
 -- every byte is zero, or one is not
 pub zero-bytes : (bs : Bytes) (r : Bool)
@@ -77,12 +68,25 @@ length-blocks : (k : ℕ) (bs : Bytes) → length (first_chunks 64 k bs) ≡ k
 length-blocks zero bs = refl
 length-blocks (suc k) bs = ap suc (length-blocks k (drop 64 bs))
 
+-- what is found of all elements, or of one, from the last to the first is so from the first to the last
+from-the-end : {X : Type 0} (P Q : X → Type 0) (xs : List X) (r : Bool)
+    → MatchBool r (AllWithin P (reverse xs) 0 (length (reverse xs))) ((k : ℕ) × (k < length (reverse xs)) × HoldsAt Q (reverse xs) k)
+    → MatchBool r (AllWithin P xs 0 (length xs)) ((k : ℕ) × (k < length xs) × HoldsAt Q xs k)
+from-the-end P Q xs true all = λ i d low high.
+    let count : length (reverse xs) ≡ length xs = length-reverse xs in
+    let j : ℕ = length xs - 1 - i in
+    let back : length xs - 1 - j ≡ i = omega arith in
+    subst P (get_or-reverse xs j d (omega arith) ∙ ap (λ (n : ℕ). get_or xs n d) back) (all j d (omega arith) (omega arith))
+from-the-end P Q xs false (k, h, some) =
+    let count : length (reverse xs) ≡ length xs = length-reverse xs in
+    (length xs - 1 - k, omega arith, λ d. subst Q (get_or-reverse xs k d (omega arith)) (some d))
+
 -- every block is `==` to zeros, or one is not: where the bytes behind the blocks are zero, this decides
-pub blocks-decide : (bs : Bytes) (r : Bool) → AllBytes bs
+decided : (bs : Bytes) (r : Bool) → AllBytes bs
     → MatchBool r (AllWithin (λ b. pointwise eqb b (replicate 64 0) ≡ true) (blocks bs) 0 (length (blocks bs)))
     ((k : ℕ) × (k < length (blocks bs)) × HoldsAt (λ b. pointwise eqb b (replicate 64 0) ≡ false) (blocks bs) k)
     → num (drop (length bs / 64 * 64) bs) ≡ 0 → r ≡ eqb (num bs) 0
-blocks-decide bs true v all rest = zeros-rest (so_far (length bs / 64) (omega arith)) (sym (eq-eqb _ 0 rest))
+decided bs true v all rest = zeros-rest (so_far (length bs / 64) (omega arith)) (sym (eq-eqb _ 0 rest))
   where
     so_far : (i : ℕ) → i ≤ length bs / 64 → Zeros bs (i * 64)
     so_far zero h = zeros-none bs
@@ -91,9 +95,18 @@ blocks-decide bs true v all rest = zeros-rest (so_far (length bs / 64) (omega ar
         let blank = all i [] (omega arith) (omega arith) in
         zeros-more 64 (so_far i (omega arith)) (omega arith) (omega arith)
         (blank-zero (take 64 (drop (i * 64) bs)) (rw (block-at (length bs / 64) bs i [] (omega arith)) at blank))
-blocks-decide bs false v (k, h, some) rest =
+decided bs false v (k, h, some) rest =
     let count : length (blocks bs) ≡ length bs / 64 = length-blocks (length bs / 64) bs in
     part-not-zero bs (k * 64) 64 (omega arith)
     (blank-not-zero (take 64 (drop (k * 64) bs)) (take-bytes 64 (drop (k * 64) bs) (drop-bytes (k * 64) bs v))
     (simp (length-take, length-drop) (omega arith))
     (rw (block-at (length bs / 64) bs k [] (omega arith)) at (some [])))
+
+-- the same where the last block is judged first
+pub blocks-decide : (bs : Bytes) (r : Bool) → AllBytes bs
+    → MatchBool r (AllWithin (λ b. pointwise eqb b (replicate 64 0) ≡ true) (reverse (blocks bs)) 0 (length (reverse (blocks bs))))
+    ((k : ℕ) × (k < length (reverse (blocks bs))) × HoldsAt (λ b. pointwise eqb b (replicate 64 0) ≡ false) (reverse (blocks bs)) k)
+    → num (drop (length bs / 64 * 64) bs) ≡ 0 → r ≡ eqb (num bs) 0
+blocks-decide bs r v m =
+    decided bs r v
+    (from-the-end (λ b. pointwise eqb b (replicate 64 0) ≡ true) (λ b. pointwise eqb b (replicate 64 0) ≡ false) (blocks bs) r m)

@@ -1,2 +1,2 @@
-pub mod Parts
+pub mod ByLimbs
 pub mod Bytes

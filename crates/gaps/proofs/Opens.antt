@@ -38,6 +38,11 @@ module _ (t moved : Bytes) (at gap end : ℕ) (h : at ≤ end) (g : end + gap �
       let zeros : cleared ≡ replicate gap 0 = z ∙ rw (mid_len at (at + gap) moved (omega (arith, size)), wide) in
       rw (before-same, zeros, Post-is at (at + gap) moved (omega arith), behind-moved)
 
+-- the bytes that move are those from `at` on, and they go to `at + gap`
+pub moved-down : (t moved : Bytes) (at gap end from to : ℕ) → moved ≡ paste t to (drop from t) (end - from) → from ≡ at → to ≡ at + gap
+    → moved ≡ paste t (at + gap) (drop at t) (end - at)
+moved-down t moved at gap end from to e starts goes = rw (← goes, ← starts) e
+
 -- a key, and a value behind it
 module _ (t moved : Bytes) (at end : ℕ) (h : at ≤ end) (g : end + 64 ≤ length t) (e : moved ≡ paste t (at + 64) (drop at t) (end - at)) where
   pub insert-leaves : (key value key' value' : Bytes) → key' ≡ key → value' ≡ value → length key ≡ 32 → length value ≡ 32

@@ -1,5 +1,5 @@
 -- What the search among held capabilities asks and promises, where the rules have no name for it.
-use Rattle.std.specs.Prelude.{ℕ, ◌+◌, ◌*◌, ◌≤◌, ◌<◌, min, ◌≡◌, true, length, take, drop}
+use Rattle.std.specs.Prelude.{ℕ, ◌+◌, ◌*◌, ◌≤◌, ◌<◌, min, ◌≡◌, true, length, take, drop, replicate}
 use Rattle.rules.specs.Words.{Bytes, word_bytes}
 use Rattle.rules.specs.Table.{Store, get}
 use Rattle.rules.specs.KernelStorage.{count_slot}
@@ -13,9 +13,12 @@ use Rattle.rights.specs.Rights.{capability_in}
 use Rattle.held.specs.declared.Held.{Held}
 use Rattle.held.specs.declared.Search.{Search}
 
--- the bytes of a capability's copy
+-- the bytes of a capability's copy, and of copies of as many as a procedure may hold
 abbrev pub copy_bytes : ℕ
 copy_bytes = word_bytes * greatest_words
+
+abbrev pub copies_bytes : ℕ
+copies_bytes = greatest_count * copy_bytes
 
 -- the copy behind the first i
 abbrev pub copy_in : (copies : Bytes) → (i : ℕ) → Bytes
@@ -28,11 +31,12 @@ pub record Reached (s : Store) (p : ℕ) (h : Held) : Type 0 where
   pub held : (i : ℕ) → i < h.read
       → OfType h.kind.0 (λ kind. capability_in kind (copy_in h.copies i) ≡ capability s p kind (i + 1))
 
--- the reading of the type that n names, before any is read
+-- the reading of the type that n names, before any is read: the copies are zeros
 pub record Unread (s : Store) (p n : ℕ) (h : Held) : Type 0 where
   pub type : h.kind.0 ≡ n
   pub number : h.number ≡ min (get s (count_slot p n)) small_limit
   pub none : h.read ≡ 0
+  pub copies : h.copies ≡ replicate copies_bytes 0
 
 -- the reading of the type that n names, which has come as far as it says if the one before has
 pub record Ready (s : Store) (p n : ℕ) (before after : Held) : Type 0 where

@@ -1,10 +1,12 @@
 #![tactic(auto)]
 // The search among the capabilities that a procedure holds for one that contains another. Each is copied
 // from the table when it is first tested, so that a later search for a request of its type finds the copy.
-ghost use Rattle.std.specs.Prelude.{◌≤◌, ◌<◌};
+ghost use Rattle.std.specs.Prelude.{◌≡◌, ◌≤◌, ◌<◌, min};
 ghost use Rattle.rules.specs.Words.{num};
-ghost use Rattle.rules.specs.Table.{store};
+ghost use Rattle.rules.specs.Table.{get, store};
+ghost use Rattle.rules.specs.KernelStorage.{count_slot};
 ghost use Rattle.rules.specs.Sound.{greatest_count};
+ghost use Rattle.words.specs.Words.{small_limit};
 ghost use Rattle.held.specs.Held.{Reached, Unread, Ready, ReachedBehind, SearchNeeds, Searched};
 
 pub use holding::{Records, capability, count_of};
@@ -15,7 +17,7 @@ const COPIES_BYTES: usize = rules::GREATEST_COUNT * holding::CAPABILITY_BYTES;
 
 // The capabilities of one type that a procedure holds: how many there are, and copies of those that were read, from the first on.
 // `next` is a guess where the next one's words stand in the table.
-#[derive(Drop)]
+#[derive(Clone, Drop)]
 pub struct Held {
     copies: [u8; COPIES_BYTES],
     kind: Kind,
@@ -33,39 +35,40 @@ pub struct Search {
     pub tests: usize,
 }
 
+// How many of a type are held, and a guess where the words of the first stand: behind that count. (A pair, so that a
+// `Held` is made whole, and its 16 KB are not copied.)
+fn count_and_next(table: Records, procedure: &[u8; rules::KEY_BYTES], kind: Kind) -> (usize, usize)
+    ensures { result.0 ≡ min (get (store table.entry.bytes.now) (count_slot (num procedure.now) kind.0)) small_limit }
+{
+    let count = holding::read_count(table, procedure, kind);
+    (count.number, count.place + 1)
+}
+
 impl Held {
     // Those of a type, before one is read.
     pub fn unread(table: Records, procedure: &[u8; rules::KEY_BYTES], kind: Kind) -> Held
         ensures { Unread (store table.entry.bytes.now) (num procedure.now) kind.0 result }
     {
-        let mut held = Held {
+        let (number, next) = count_and_next(table, procedure, kind);
+        Held {
             copies: [0; COPIES_BYTES],
             kind,
-            number: 0,
+            number,
             read: 0,
-            next: 0,
-        };
-        held.begin(table, procedure, kind);
-        held
+            next,
+        }
     }
 
-    // Begins with a type. The records of its words stand behind that of the count. The copies stay, since none counts as read.
-    fn begin(&mut self, table: Records, procedure: &[u8; rules::KEY_BYTES], kind: Kind)
-        ensures { Unread (store table.entry.bytes.now) (num procedure.now) kind.0 self.new }
-    {
-        let count = holding::read_count(table, procedure, kind);
-        self.kind = kind;
-        self.number = count.number;
-        self.read = 0;
-        self.next = count.place + 1;
-    }
-
-    // Begins anew unless it is of the type.
+    // Begins anew unless it is of the type. The copies stay, since none counts as read.
     fn turn_to(&mut self, table: Records, procedure: &[u8; rules::KEY_BYTES], kind: Kind)
         ensures { Ready (store table.entry.bytes.now) (num procedure.now) kind.0 self.old self.new }
     {
         if self.kind != kind {
-            self.begin(table, procedure, kind);
+            let (number, next) = count_and_next(table, procedure, kind);
+            self.kind = kind;
+            self.number = number;
+            self.read = 0;
+            self.next = next;
         }
     }
 

@@ -22,10 +22,14 @@ use Rattle.laws.proofs.Numerals.{num-more}
 pub rest_part : (n : ℕ) (bs : Bytes) → take (length bs - n) (drop n bs) ≡ drop n bs
 rest_part n bs = take_all (length bs - n) (drop n bs) (simp length-drop (omega arith))
 
+-- where `get` gives no bytes from the n-th on, there are none
+pub rest-none : (xs : Bytes) (n : ℕ) → IsGetRangeResult xs n (length xs) None → drop n xs ≡ []
+rest-none xs n p = drop_of_length-le xs (⊎_elim (λ h. omega arith) (λ h. omega arith) p.0)
+
 -- the bytes from the n-th on, as `get` gives them, or none where there are fewer
 pub rest-or-none : (xs : Bytes) (n : ℕ) (r : Option (Bor Bytes)) (rest : Bor Bytes) → IsGetRangeResult xs n (length xs) r
     → UnwrapsOrElse r (λ x. x.now ≡ []) rest → rest.now ≡ drop n xs
-rest-or-none xs n None rest p d = d ∙ sym (drop_of_length-le xs (⊎_elim (λ h. omega arith) (λ h. omega arith) p.0))
+rest-or-none xs n None rest p d = d ∙ sym (rest-none xs n p)
 rest-or-none xs n (Some part) rest p d = grind (arith, common_steps)
 
 -- one byte

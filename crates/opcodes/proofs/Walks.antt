@@ -93,6 +93,12 @@ module _ (mask code : Bytes) {i : ℕ} (first : position (other mask) code ≡ S
       let to = walked_to mask code i first in
       to.1 ∙ walk_at mask code i to.0 ∙ rw (q, p, rest_part, ← a) refl
 
+  -- its data are cut by the end of the code
+  pub walked_cut : true ≡ allowed mask (get_or code i 0) → {n : ℕ} → n ≡ data_bytes (get_or code i 0)
+      → [] ≡ drop (1 + n) (take (length code - i) (drop i code)) → true ≡ walk mask 0 code
+  unfolding walk
+  walked_cut a p q = sym (walked_more a p q)
+
   pub walked_stop : false ≡ allowed mask (get_or code i 0) → walk mask 0 code ≡ false
   walked_stop a =
       let to = walked_to mask code i first in

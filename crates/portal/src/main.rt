@@ -2,8 +2,9 @@
 // The program of document 01: it sets up a table, reads messages as lines of hex, and prints a line for each answer.
 // What is printed for a piece of the input is promised and proved in `feeding`. Here the pieces are read and the answers written.
 ghost use Rattle.std.specs.Prelude.{◌≤◌, ◌≡◌, length, IfOk, OnErr};
+ghost use Rattle.std.specs.Io.{StartsWith};
 ghost use Rattle.answering.specs.Answering.{answer_room};
-ghost use Rattle.portal.specs.States.{Within};
+ghost use Rattle.portal.specs.States.{Within, unanswered};
 
 use std::io;
 use std::io::{Read, Write};
@@ -26,6 +27,7 @@ struct State {
 fn read_more<R: Read>(from: &mut R, input: &mut [u8], left: State) -> io::Result<State>
     requires { Within left input.old }
     ensures ok { IfOk result (λ s. Within s input.new) }
+    ensures kept { IfOk result (λ s. StartsWith (unanswered s input.new) (unanswered left input.old)) }
     ensures err { OnErr result (length input.new ≡ length input.old) }
 {
     input.copy_within(left.start..left.end, 0);

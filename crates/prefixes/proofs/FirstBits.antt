@@ -18,6 +18,10 @@ use Rattle.laws.proofs.Lists.{places-true}
 use Rattle.laws.proofs.Numbers.{same_or_not, digits-high, digits_low}
 use Rattle.laws.proofs.Numerals.{all-bytes, num-suc}
 use Rattle.laws.proofs.Parts.{byte_at, num-take}
+use Rattle.laws.proofs.Words.{take-bytes}
+use Rattle.equality.proofs.Bytes.{same-bytes}
+use Rattle.std.specs.Cmp.Lexicographic.{pointwise}
+use Rattle.std.proofs.Common.{length-take}
 
 -- two numbers of two digits are the same where both digits are
 eqb-digits : (B a b a' b' : ℕ) → b < B → b' < B → eqb (a * B + b) (a' * B + b') ≡ (eqb a a' && eqb b b')
@@ -120,7 +124,13 @@ module _ {s : ℕ} {a b : Bytes} (k : Compared s a b) where
       ∙ ap₂ eqb (first-digits a is_a k.size_a (s / 8) (s % 8) small fits) (first-digits b is_b k.size_b (s / 8) (s % 8) small fits)
       ∙ eqb-digits (2 ^ (s % 8)) _ _ _ _ (digit-fits a is_a (s / 8) (s % 8) small) (digit-fits b is_b (s / 8) (s % 8) small)
 
-  -- the whole bytes, as the code answers
+  -- the whole bytes, as the library compares them
+  pub whole-same : {r : Bool} → r ≡ pointwise eqb (take (s / 8) a) (take (s / 8) b) → r ≡ same_whole
+  whole-same =
+      same-bytes (take (s / 8) a) (take (s / 8) b) (take-bytes (s / 8) a (all-bytes a k.values_a)) (take-bytes (s / 8) b (all-bytes b k.values_b))
+      (simp length-take (omega (arith, k.size_a, k.size_b)))
+
+  -- and as the code answers
   told : {r t : Bool} → r ≡ same_whole → r ≡ t → same_whole ≡ t
   told p e = sym p ∙ e
 

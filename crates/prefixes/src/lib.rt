@@ -13,7 +13,7 @@ pub fn same_first_bits(s: usize, a: &[u8; rules::KEY_BYTES], b: &[u8; rules::KEY
 {
     let whole = s / 8;
     let part = s % 8;
-    words::same(&a[..whole], &b[..whole]) && (part == 0 || same_part(part, a[whole], b[whole]))
+    a[..whole] == b[..whole] && (part == 0 || same_part(part, a[whole], b[whole]))
 }
 
 // Whether the first `part` bits of two bytes are equal.

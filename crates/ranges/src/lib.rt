@@ -15,7 +15,9 @@ pub fn covers_address(
     within_range(x, &[0u8; rules::WORD_BYTES], a, n)
 }
 
-// Whether the Write capability (b, m) lies within (a, n): a ≤ b and b + m ≤ a + n.
+// Whether the Write capability (b, m) lies within (a, n): a ≤ b and b + m ≤ a + n. In line, since a search among held ones asks
+// it of each.
+#[inline(always)]
 #[tactic(auto, unfolding(rules::specs::Capabilities::within_range, rules::specs::Capabilities::word_of))]
 pub fn within_range(
     b: &[u8; rules::WORD_BYTES],

@@ -39,11 +39,11 @@ const DONE: Reply = Reply {
 fn padded_code(refusal: Refusal) -> [u8; 2]
     ensures { result ≡ padded (code_bytes refusal.0) }
 {
-    let code = refusal.0.to_be_bytes();
+    let [first, last] = refusal.0.to_be_bytes();
     if refusal.code_len() == 1 {
-        [code[1], 0]
+        [last, 0]
     } else {
-        code
+        [first, last]
     }
 }
 

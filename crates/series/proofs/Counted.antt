@@ -1,6 +1,6 @@
 -- The loop that counts the requests of each type: the counts so far and those of the requests that are left make up the whole.
 -- The test for too many then looks at each type's count.
-use Rattle.std.proofs.Common.{ℕ, zero, suc, ◌+◌, ◌≤◌, ◌<◌, ◌≡◌, ◌⊎◌, inl, inr, refl, sym, ap, ◌∙◌, List, [], ◌∷◌, Bool, true, false, eqb, ltb, length, get_or, set, arith, length-set, get_or-set_same, get_or-set_other, ext_get_or, ltb-true, ltb-false, eq-eqb, ne_eqb, lt-ltb, le-ltb, MatchBool, HoldsAt}
+use Rattle.std.proofs.Common.{ℕ, zero, suc, ◌+◌, ◌-◌, ◌≤◌, ◌<◌, ◌≡◌, ◌⊎◌, inl, inr, refl, sym, ap, ◌∙◌, List, [], ◌∷◌, Bool, true, false, eqb, ltb, length, take, drop, get_or, set, arith, length-set, get_or-set_same, get_or-set_other, ext_get_or, ltb-true, ltb-false, eq-eqb, ne_eqb, lt-ltb, le-ltb, MatchBool, HoldsAt}
 use Rattle.std.specs.List.{AllWithin}
 use Rattle.rules.specs.Words.{Bytes}
 use Rattle.rules.specs.Capabilities.{Kind, call, register, delete, set_entry, write, number}
@@ -10,6 +10,7 @@ use Rattle.rules.specs.Calls.{too_many}
 use Rattle.rules.proofs.Source.{names-none}
 use Rattle.laws.proofs.KindFacts.{number-least, kind_of-number}
 use Rattle.laws.proofs.Numbers.{same_or_not}
+use Rattle.laws.proofs.WordParts.{rest_part}
 use Rattle.series.specs.Series.{left, bytes_left, FirstLeft, requested_counts}
 use Rattle.series.specs.declared.Series.{Series}
 use Rattle.series.specs.declared.Request.{Request as Found}
@@ -151,15 +152,21 @@ Searched counts r =
     MatchBool r ((k : ℕ) × (k < length counts) × HoldsAt (λ x. greatest_count < x) counts k)
     (AllWithin (λ x. x ≤ greatest_count) counts 0 (length counts))
 
--- no count stands where no type's number is, so those of the types decide
-pub counts-decide : (rs : List Request) {counts : List ℕ} → counts ≡ requested_counts rs → (r : Bool) → Searched counts r
-    → r ≡ too_many rs
+-- the counts from Call's on, 3: no type's number is smaller
+pub types-counts : (rs : List Request) {counts : List ℕ} {from : ℕ} → counts ≡ requested_counts rs → from ≡ 3
+    → take (length counts - from) (drop from counts) ≡ drop 3 (requested_counts rs)
+types-counts rs {counts} {from} e first = rest_part from counts ∙ rw (first, e) refl
+
+-- those counts decide whether one is too large
+pub counts-decide : (rs : List Request) {counts : List ℕ} {from : ℕ} → counts ≡ requested_counts rs → from ≡ 3
+    → (r : Bool) → Searched (take (length counts - from) (drop from counts)) r → r ≡ too_many rs
 unfolding too_many any_of requested_counts
-counts-decide rs {counts} e r h = go r h ∙ ap (any_of (ltb greatest_count)) e ∙ all
+counts-decide rs {counts} {from} e first r h = go r h ∙ ap (any_of (ltb greatest_count)) (types-counts rs e first) ∙ all
   where
-    all : any_of (ltb greatest_count) (requested_counts rs) ≡ too_many rs
+    all : any_of (ltb greatest_count) (drop 3 (requested_counts rs)) ≡ too_many rs
     all = refl
 
-    go : (r : Bool) → Searched counts r → r ≡ any_of (ltb greatest_count) counts
-    go true q = sym (found counts q.0 q.1 (q.2 0))
-    go false q = sym (not-found counts q)
+    go : (r : Bool) → Searched (take (length counts - from) (drop from counts)) r
+        → r ≡ any_of (ltb greatest_count) (take (length counts - from) (drop from counts))
+    go true q = sym (found _ q.0 q.1 (q.2 0))
+    go false q = sym (not-found _ q)

@@ -18,7 +18,7 @@ pub struct Request<'a> {
 }
 
 // The first request of a well-formed series that has one.
-fn first_request<'a>(rest: &'a [u8]) -> Request<'a>
+pub fn first_request<'a>(rest: &'a [u8]) -> Request<'a>
     requires { (0 < length rest.now) × WellFormed rest.now }
     ensures { FirstRequest rest.now result }
 {
@@ -80,11 +80,13 @@ pub fn requested(d: &[u8]) -> [usize; rules::TYPES]
     counts
 }
 
-// Whether more of one type are requested than a procedure may hold.
+// Whether more of one type are requested than a procedure may hold. No type's number is smaller than Call's.
 pub fn too_many(d: &[u8]) -> bool
     requires { WellFormedFrom d.now series_at }
     ensures { result ≡ too_many (requests d.now) }
 {
     let counts = requested(d);
-    counts.iter().any(|count| rules::GREATEST_COUNT < *count)
+    counts[usize::from(Kind::CALL.0)..]
+        .iter()
+        .any(|count| rules::GREATEST_COUNT < *count)
 }

@@ -7,19 +7,19 @@ ghost use Rattle.words.specs.Words.{small_limit};
 pub use equality::{is_blank, is_zero, same};
 pub use sums::sums_at_most;
 
-// Whether two words are the same. (One function over the length was tried: a proof does not know of the bytes of an array of
-// unknown length that they are below 256.)
+// Whether two words are the same. (`==` of two arrays is compiled to a call, which in whole calls costs more than the limbs that
+// `same` reads in line.)
 pub fn same_word(a: &[u8; rules::WORD_BYTES], b: &[u8; rules::WORD_BYTES]) -> bool
     ensures { result ≡ eqb (num a.now) (num b.now) }
 {
-    a == b
+    equality::same(a, b)
 }
 
-// Whether a word is zero: asked of every value of a table, and so of the array, which is judged at once and not byte by byte.
+// Whether a word is zero. (Not by `==` with zeros, for the same reason.)
 pub fn is_zero_word(word: &[u8; rules::WORD_BYTES]) -> bool
     ensures { result ≡ eqb (num word.now) 0 }
 {
-    *word == [0; rules::WORD_BYTES]
+    equality::is_zero(word)
 }
 
 // Where a word's last limb is.

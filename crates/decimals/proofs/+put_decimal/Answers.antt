@@ -12,14 +12,14 @@ returns-then-n-lt10 t c = rw (decimal-one c.args.n c.if-n-lt10.true) c.put.ensur
 
 pub put_decimal-requires : goal.put_decimal-requires
 put_decimal-requires t c =
-    let longer = decimal-longer c.args.n (search rules) (search rules) in
+    let longer = decimal-longer c.args.n (search rules) in
     (omega arith, omega arith)
 
 pub put-requires-2 : goal.put-requires-2
 put-requires-2 t c =
-    let longer = decimal-longer c.args.n (search rules) (search rules) in
+    let longer = decimal-longer c.args.n (search rules) in
     let before = c.put_decimal.ensures in
     search rules
 
 pub returns : goal.returns
-returns t c = rw (decimal-more c.args.n (search rules) (search rules)) (wrote_both c.put_decimal.ensures c.put-2.ensures)
+returns t c = rw (decimal-more c.args.n (search rules)) (wrote_both c.put_decimal.ensures c.put-2.ensures)

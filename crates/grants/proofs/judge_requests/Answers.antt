@@ -1,6 +1,6 @@
 -- The loop keeps `Going`: the requests before are contained, and their tests are counted. What was read for them is kept
--- for the next search.
-use Rattle.results.proofs.Rows.{negated}
+-- for the next search. Whether a request is contained is sought in the condition, whatever its form.
+use Rattle.std.proofs.Common.{rules}
 use Rattle.grants.proofs.Going.{going-starts, search-needs, going_on, not-granted, all-granted}
 use Rattle.grants.proofs.judge_requests.Goals as goal
 
@@ -17,12 +17,12 @@ search-found-requires-clause-search_needs c =
 pub loop-request-preserved : goal.loop-request-preserved
 loop-request-preserved c =
     going_on c.args.table.bytes.now c.requires.sound_table c.loop-request.invariant c.in-Some.ensures.steps
-    c.search-found.ensures (negated c.if-not-found.false)
+    c.search-found.ensures (search rules)
 
 pub returns-then-not-found : goal.returns-then-not-found
 returns-then-not-found c =
     not-granted c.args.table.bytes.now c.requires.sound_table c.loop-request.invariant c.in-Some.ensures.steps
-    c.search-found.ensures (negated c.if-not-found.true)
+    c.search-found.ensures (search rules)
 
 pub returns : goal.returns
 returns c = all-granted c.loop-request.invariant c.in-None.ensures.steps.0

@@ -1,4 +1,4 @@
--- The search over the counts finds one that is too large, or none is.
+-- The search over the counts of the types finds one that is too large, or none is.
 use Rattle.std.proofs.Common.{rules, ◌<◌, ◌≤◌, tests}
 use Rattle.std.proofs.lemmas.Iterator.{YieldsList-from_slice, cases_from_any}
 use Rattle.rules.specs.Messages.{requests}
@@ -8,6 +8,6 @@ use Rattle.series.proofs.too_many.Goals as goal
 
 pub returns : goal.returns
 returns c =
-    counts-decide (requests c.args.d.now) c.requested-counts.ensures c.any.result
-    (cases_from_any _ _ _ (λ x. greatest_count < x) (λ x. x ≤ greatest_count) c.any.ensures.ran
-    (YieldsList-from_slice c.requested-counts.result cc) (λ x q k. search (rules, tests)) (λ x q k. search (rules, tests)))
+    counts-decide (requests c.args.d.now) c.requested-counts.ensures c.from.ensures c.any.result
+    (cases_from_any _ _ _ (λ x. greatest_count < x) (λ x. x ≤ greatest_count) c.any.ensures.ran (YieldsList-from_slice _ cc)
+    (λ x q k. search (rules, tests)) (λ x q k. search (rules, tests)))
